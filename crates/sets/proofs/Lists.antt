@@ -1,0 +1,144 @@
+-- What the tests over a list say of its elements, what the lists of this crate have for elements,
+-- and that a rising list is given by its elements.
+-- Assumes nothing.
+use mathlib.Core.Path.{_≡_, refl, sym, ap, ap₂, _∙_, subst}
+use mathlib.Core.Bool.{Bool, true, false, _&&_, _||_, false≢true, and-assoc, or-assoc}
+use mathlib.Core.Logic.{_↔_, _⊎_, inl, inr}
+use mathlib.Core.List.{List, [], _∷_, _++_, append-assoc, List·Memᴰ, List·Memᴰ·head, List·Memᴰ·tail, List·Memᴰ·not-nil, List·Memᴰ·cases-cons, List·Memᴰ·append-cases, Memᴰ·append-left, Memᴰ·append-right}
+use Prim.Native.Nat.{ℕ, zero, suc, _+_, _≤_, _<_, zero-le}
+use native.Mathlib.Nat.{lt-irrefl, le-antisymm, eq-or-lt-of-le}
+use native.Mathlib.Omega.{arith}
+use Rattle.sets.specs.Lists.{some, every, concat, Distinct, upward, below, RisingAbove, Rising}
+use Rattle.sets.proofs.Bools.{clash, false-iff, and-true, or-true, or-left-comm}
+
+module _ {ℓ} {A : Type ℓ} where
+  -- ---- some
+
+  pub some-intro : (p : A → Bool) (l : List A) {x : A} → List·Memᴰ x l → p x ≡ true → some p l ≡ true
+  some-intro p (y ∷ l) (List·Memᴰ·head e) h = or-true (p y) (some p l) .1 (inl (ap p (sym e) ∙ h))
+  some-intro p (y ∷ l) (List·Memᴰ·tail m) h = or-true (p y) (some p l) .1 (inr (some-intro p l m h))
+
+  pub some-elim : (p : A → Bool) (l : List A) → some p l ≡ true → (x : A) × List·Memᴰ x l × (p x ≡ true)
+  some-elim p [] h = absurd (false≢true h)
+  some-elim p (y ∷ l) h = go (some-elim p l) (or-true (p y) (some p l) .0 h)
+    where
+      go : (some p l ≡ true → (x : A) × List·Memᴰ x l × (p x ≡ true)) → (p y ≡ true) ⊎ (some p l ≡ true)
+          → (x : A) × List·Memᴰ x (y ∷ l) × (p x ≡ true)
+      go rest (inl e) = (y, List·Memᴰ·head refl, e)
+      go rest (inr e) = let r = rest e in (r .0, List·Memᴰ·tail (r .1), r .2)
+
+  pub some-false : (p : A → Bool) (l : List A) → some p l ≡ false → {x : A} → List·Memᴰ x l → p x ≡ false
+  some-false p l h {x} m = false-iff (p x) .1 (λ t. clash (some-intro p l m t) h)
+
+  pub none-false : (p : A → Bool) (l : List A) → ((x : A) → List·Memᴰ x l → p x ≡ false) → some p l ≡ false
+  none-false p l h = false-iff (some p l) .1 (λ t. let r = some-elim p l t in clash (r .2) (h (r .0) (r .1)))
+
+  pub some-append : (p : A → Bool) (k l : List A) → some p (k ++ l) ≡ (some p k || some p l)
+  some-append p [] l = refl
+  some-append p (x ∷ k) l = ap (λ (b : Bool). p x || b) (some-append p k l) ∙ sym (or-assoc (p x) (some p k) (some p l))
+
+  pub some-or : (p q : A → Bool) (l : List A) → some (λ x. p x || q x) l ≡ (some p l || some q l)
+  some-or p q [] = refl
+  some-or p q (x ∷ l) = ap (λ (b : Bool). (p x || q x) || b) (some-or p q l) ∙ cross (p x) (q x) (some p l) (some q l)
+    where
+      cross : (a b c d : Bool) → (a || b || (c || d)) ≡ ((a || c) || (b || d))
+      cross true b c d = refl
+      cross false b c d = or-left-comm b c d
+
+  -- ---- every
+
+  pub every-intro : (p : A → Bool) (l : List A) → ((x : A) → List·Memᴰ x l → p x ≡ true) → every p l ≡ true
+  every-intro p [] h = refl
+  every-intro p (y ∷ l) h = and-true (p y) (every p l) .1 (h y (List·Memᴰ·head refl), every-intro p l (λ x m. h x (List·Memᴰ·tail m)))
+
+  pub every-elim : (p : A → Bool) (l : List A) → every p l ≡ true → (x : A) → List·Memᴰ x l → p x ≡ true
+  every-elim p (y ∷ l) h x (List·Memᴰ·head e) = ap p e ∙ and-true (p y) (every p l) .0 h .0
+  every-elim p (y ∷ l) h x (List·Memᴰ·tail m) = every-elim p l (and-true (p y) (every p l) .0 h .1) x m
+
+  pub every-append : (p : A → Bool) (k l : List A) → every p (k ++ l) ≡ (every p k && every p l)
+  every-append p [] l = refl
+  every-append p (x ∷ k) l = ap (λ (b : Bool). p x && b) (every-append p k l) ∙ sym (and-assoc (p x) (every p k) (every p l))
+
+  -- ---- concat
+
+  pub concat-append : (a b : List (List A)) → concat (a ++ b) ≡ concat a ++ concat b
+  concat-append [] b = refl
+  concat-append (l ∷ a) b = ap (λ (r : List A). l ++ r) (concat-append a b) ∙ sym (append-assoc l (concat a) (concat b))
+
+  from-concat : (ls : List (List A)) {x : A} → List·Memᴰ x (concat ls) → (l : List A) × List·Memᴰ l ls × List·Memᴰ x l
+  from-concat [] m = absurd (List·Memᴰ·not-nil m)
+  from-concat (k ∷ ls) {x} m = go (from-concat ls) (List·Memᴰ·append-cases k m)
+    where
+      go : (List·Memᴰ x (concat ls) → (l : List A) × List·Memᴰ l ls × List·Memᴰ x l) → List·Memᴰ x k ⊎ List·Memᴰ x (concat ls)
+          → (l : List A) × List·Memᴰ l (k ∷ ls) × List·Memᴰ x l
+      go rest (inl h) = (k, List·Memᴰ·head refl, h)
+      go rest (inr h) = let r = rest h in (r .0, List·Memᴰ·tail (r .1), r .2)
+
+  into-concat : (ls : List (List A)) {l : List A} {x : A} → List·Memᴰ l ls → List·Memᴰ x l → List·Memᴰ x (concat ls)
+  into-concat (k ∷ ls) {x = x} (List·Memᴰ·head e) m = Memᴰ·append-left (concat ls) (subst (λ (r : List A). List·Memᴰ x r) e m)
+  into-concat (k ∷ ls) (List·Memᴰ·tail h) m = Memᴰ·append-right k (into-concat ls h m)
+
+  pub mem-concat : (ls : List (List A)) {x : A} → List·Memᴰ x (concat ls) ↔ ((l : List A) × List·Memᴰ l ls × List·Memᴰ x l)
+  mem-concat ls = (from-concat ls, λ h. into-concat ls (h .1) (h .2))
+
+-- ---- the numbers from i on, and those below n
+
+from-upward : (i k j : ℕ) → List·Memᴰ j (upward i k) → (i ≤ j) × (j < i + k)
+unfolding upward
+from-upward i zero j m = absurd (List·Memᴰ·not-nil m)
+from-upward i (suc k) j m = go (from-upward (suc i) k j) (List·Memᴰ·cases-cons m)
+  where
+    go : (List·Memᴰ j (upward (suc i) k) → (suc i ≤ j) × (j < suc i + k)) → (j ≡ i) ⊎ List·Memᴰ j (upward (suc i) k) → (i ≤ j) × (j < i + suc k)
+    go rest (inl e) = omega arith
+    go rest (inr h) = let r = rest h in omega arith
+
+into-upward : (i k j : ℕ) → i ≤ j → j < i + k → List·Memᴰ j (upward i k)
+unfolding upward
+into-upward i zero j a b = absurd (omega arith)
+into-upward i (suc k) j a b = go (into-upward (suc i) k j) (eq-or-lt-of-le a)
+  where
+    go : (suc i ≤ j → j < suc i + k → List·Memᴰ j (upward (suc i) k)) → (i ≡ j) ⊎ (i < j) → List·Memᴰ j (i ∷ upward (suc i) k)
+    go rest (inl e) = List·Memᴰ·head (sym e)
+    go rest (inr h) = List·Memᴰ·tail (rest h (omega arith))
+
+pub mem-upward : (i k j : ℕ) → List·Memᴰ j (upward i k) ↔ ((i ≤ j) × (j < i + k))
+mem-upward i k j = (from-upward i k j, λ h. into-upward i k j (h .0) (h .1))
+
+pub mem-below : (n i : ℕ) → List·Memᴰ i (below n) ↔ (i < n)
+unfolding below
+mem-below n i = (λ m. let h = mem-upward 0 n i .0 m in omega arith, λ h. mem-upward 0 n i .1 (zero-le, omega arith))
+
+-- ---- rising lists
+
+-- every element of a list that rises above i is above i
+pub above-mem : (i : ℕ) (l : List ℕ) → RisingAbove i l → {j : ℕ} → List·Memᴰ j l → i < j
+above-mem i (x ∷ l) r (List·Memᴰ·head e) = let h = r .0 in omega arith
+above-mem i (x ∷ l) r (List·Memᴰ·tail m) = let h = r .0 in let t = above-mem x l (r .1) m in omega arith
+
+pub above-rising : (i : ℕ) (l : List ℕ) → RisingAbove i l → Rising l
+above-rising i [] r = tt
+above-rising i (x ∷ l) r = r .1
+
+pub rising-distinct : (l : List ℕ) → Rising l → Distinct l
+rising-distinct [] r = tt
+rising-distinct (x ∷ l) r = (λ m. lt-irrefl x (above-mem x l r m), rising-distinct l (above-rising x l r))
+
+-- the head of a rising list is the least of its elements
+head-least : (x : ℕ) (l : List ℕ) → Rising (x ∷ l) → {i : ℕ} → List·Memᴰ i (x ∷ l) → x ≤ i
+head-least x l r (List·Memᴰ·head e) = omega arith
+head-least x l r (List·Memᴰ·tail m) = let h = above-mem x l r m in omega arith
+
+-- of two rising lists with the same head, an element of the one's tail that the other has stands in its tail
+tail-mem : (x y : ℕ) (k l : List ℕ) → x ≡ y → RisingAbove x k → {i : ℕ} → List·Memᴰ i k → List·Memᴰ i (y ∷ l) → List·Memᴰ i l
+tail-mem x y k l e r m (List·Memᴰ·head f) = let h = above-mem x k r m in absurd (omega arith)
+tail-mem x y k l e r m (List·Memᴰ·tail h) = h
+
+pub rising-same : (k l : List ℕ) → Rising k → Rising l → ((i : ℕ) → List·Memᴰ i k ↔ List·Memᴰ i l) → k ≡ l
+rising-same [] [] r s h = refl
+rising-same [] (y ∷ l) r s h = absurd (List·Memᴰ·not-nil (h y .1 (List·Memᴰ·head refl)))
+rising-same (x ∷ k) [] r s h = absurd (List·Memᴰ·not-nil (h x .0 (List·Memᴰ·head refl)))
+rising-same (x ∷ k) (y ∷ l) r s h =
+    let same : x ≡ y = le-antisymm (head-least x k r (h y .1 (List·Memᴰ·head refl))) (head-least y l s (h x .0 (List·Memᴰ·head refl))) in
+    ap₂ (λ (i : ℕ) (t : List ℕ). i ∷ t) same
+    (rising-same k l (above-rising x k r) (above-rising y l s)
+    (λ i. (λ m. tail-mem x y k l same r m (h i .0 (List·Memᴰ·tail m)), λ m. tail-mem y x l k (sym same) s m (h i .1 (List·Memᴰ·tail m)))))
