@@ -1,0 +1,63 @@
+-- Closed examples over one dependence test: the actions 0 to 3 in a row, each dependent on itself and its neighbours.
+-- Words and their normal forms in one table, by computing; swaps and the process condition, each with a case that it refuses.
+-- Assumes nothing.
+use mathlib.Core.Path.{_≡_, refl}
+use mathlib.Core.Bool.{Bool, _&&_, true≢false, false≢true}
+use mathlib.Core.List.{List, [], _∷_, map}
+use Prim.Native.Nat.{ℕ, suc}
+use lib.Dec.{leb}
+use Rattle.traces.specs.Words.{Swap, here}
+use Rattle.traces.specs.Steps.{Process}
+use Rattle.traces.specs.Foata.{foata}
+
+abbrev neighbours : ℕ → ℕ → Bool
+neighbours a b = leb a (suc b) && leb b (suc a)
+
+record Case : Type 0 where
+  word : List ℕ
+  form : List (List ℕ)
+
+abbrev case : List ℕ → List (List ℕ) → Case
+case w ss = record { word = w; form = ss }
+
+abbrev cases : List Case
+cases =
+    case [] []
+    ∷ case (3 ∷ []) ((3 ∷ []) ∷ [])
+    -- independent actions share a step, in rising number
+    ∷ case (0 ∷ 2 ∷ []) ((0 ∷ 2 ∷ []) ∷ [])
+    ∷ case (2 ∷ 0 ∷ []) ((0 ∷ 2 ∷ []) ∷ [])
+    -- dependent ones keep their order
+    ∷ case (0 ∷ 1 ∷ []) ((0 ∷ []) ∷ (1 ∷ []) ∷ [])
+    ∷ case (1 ∷ 0 ∷ []) ((1 ∷ []) ∷ (0 ∷ []) ∷ [])
+    ∷ case (1 ∷ 2 ∷ 0 ∷ []) ((1 ∷ []) ∷ (0 ∷ 2 ∷ []) ∷ [])
+    -- the last dependent action bars, not the first
+    ∷ case (1 ∷ 2 ∷ 1 ∷ []) ((1 ∷ []) ∷ (2 ∷ []) ∷ (1 ∷ []) ∷ [])
+    -- an action leaves the last step for an earlier one, and passes as many as it can
+    ∷ case (0 ∷ 1 ∷ 3 ∷ []) ((0 ∷ 3 ∷ []) ∷ (1 ∷ []) ∷ [])
+    ∷ case (0 ∷ 1 ∷ 0 ∷ 3 ∷ []) ((0 ∷ 3 ∷ []) ∷ (1 ∷ []) ∷ (0 ∷ []) ∷ [])
+    ∷ []
+
+pub forms : map (λ c. foata neighbours (c .word)) cases ≡ map (λ c. c .form) cases
+forms = refl
+
+-- ---- swaps
+
+pub apart-swap : Swap neighbours (0 ∷ 2 ∷ []) (2 ∷ 0 ∷ [])
+apart-swap = here refl
+
+pub neighbours-stay : ¬ Swap neighbours (0 ∷ 1 ∷ []) (1 ∷ 0 ∷ [])
+neighbours-stay (here e) = true≢false e
+
+-- ---- the process condition
+
+-- each step is held to the one just before it
+pub just-before : Process neighbours ((0 ∷ []) ∷ (1 ∷ []) ∷ (2 ∷ []) ∷ [])
+just-before = (refl, (refl, tt))
+
+pub not-the-first : ¬ Process neighbours ((1 ∷ []) ∷ (0 ∷ []) ∷ (2 ∷ []) ∷ [])
+not-the-first p = false≢true (p .1 .0)
+
+-- and so is every action of it: 3 has no cause in the step of 0
+pub not-only-some : ¬ Process neighbours ((0 ∷ []) ∷ (1 ∷ 3 ∷ []) ∷ [])
+not-only-some p = false≢true (p .0)

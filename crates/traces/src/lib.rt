@@ -1,0 +1,1 @@
+// Words of actions, swaps of independent neighbours, and the Foata normal form: theory alone.
