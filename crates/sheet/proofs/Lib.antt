@@ -1,0 +1,5 @@
+pub mod Numbers
+pub mod Limits
+pub mod Verdicts
+pub mod RoundTrip
+pub mod Example
