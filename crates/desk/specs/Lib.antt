@@ -1,0 +1,15 @@
+pub mod Answers
+pub mod EndSets
+pub mod Restated
+pub mod Related
+pub mod Restating
+pub mod ProcessCheck
+pub mod Pairs
+pub mod SameWork
+pub mod Leaner
+pub mod Figure
+pub mod Stuck
+pub mod Report
+pub mod Pair
+pub mod Starred
+pub mod Demands

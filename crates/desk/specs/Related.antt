@@ -1,0 +1,25 @@
+-- When two sheets are related.
+-- Assumes nothing.
+use mathlib.Core.Path.{_≡_}
+use mathlib.Core.List.{List}
+use Prim.Native.Nat.{ℕ}
+use Rattle.traces.specs.Words.{Related}
+use Rattle.systems.specs.Independence.{dependent}
+use Rattle.systems.specs.Checking.{flat}
+use Rattle.sheet.specs.Layout.{stepsAt, componentCount, actionCount, front, tables, steps}
+use Rattle.sheet.specs.Verdict.{Accepted}
+
+-- "Two sheets are over the same components and transitions when their bytes before S and S, n, m are equal."
+pub record SameTables (b c : List ℕ) : Type 0 where
+  pub same-front : front b ≡ front c
+  pub same-steps-at : stepsAt b ≡ stepsAt c
+  pub same-components : componentCount b ≡ componentCount c
+  pub same-actions : actionCount b ≡ actionCount c
+
+-- "Two accepted sheets are related when this is so and finitely many swaps of independent neighbours, or none, turn one flat list
+-- into the other."
+pub record RelatedSheets (b c : List ℕ) : Type 0 where
+  pub first-accepted : Accepted b
+  pub second-accepted : Accepted c
+  pub same-tables : SameTables b c
+  pub swaps : Related (dependent (tables b)) (flat (steps b)) (flat (steps c))

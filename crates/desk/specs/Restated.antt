@@ -1,0 +1,17 @@
+-- The restated sheet: "the same records and transitions, the related steps that meet the process condition, and a trailer to fit".
+-- Assumes nothing.
+use mathlib.Core.List.{List, map}
+use Prim.Native.Nat.{ℕ}
+use Rattle.sets.specs.Bits.{setOf}
+use Rattle.traces.specs.Foata.{foata}
+use Rattle.systems.specs.Independence.{dependent}
+use Rattle.systems.specs.Checking.{flat}
+use Rattle.sheet.specs.Layout.{front, componentCount, actionCount, tables, steps}
+use Rattle.sheet.specs.Writing.{sheetOf}
+
+-- the steps of the normal form, each as a set of actions
+unfoldable pub restatedSteps : List ℕ → List ℕ
+restatedSteps b = map setOf (foata (dependent (tables b)) (flat (steps b)))
+
+unfoldable pub restated : List ℕ → List ℕ
+restated b = sheetOf (front b) (componentCount b) (actionCount b) (restatedSteps b)
