@@ -2,3 +2,4 @@ pub mod Bools
 pub mod Lists
 pub mod Members
 pub mod Counting
+pub mod LowestBit

@@ -2,7 +2,7 @@
 -- The number of bits is free: only `members`, and what is said of it, has 64.
 -- Assumes nothing.
 use mathlib.Core.Path.{_≡_, refl, sym, ap, _∙_, subst}
-use mathlib.Core.Bool.{Bool, true, false, _&&_, _||_, false≢true}
+use mathlib.Core.Bool.{Bool, true, false, _&&_, _||_, xor, false≢true}
 use mathlib.Core.Logic.{_↔_, _≢_, _⊎_, inl, inr}
 use mathlib.Core.List.{List, [], _∷_, List·Memᴰ, List·Memᴰ·head, List·Memᴰ·tail, List·Memᴰ·not-nil}
 use Prim.Native.Nat.{ℕ, zero, suc, _+_, _*_, _/_, _%_, _^_, _≤_, _<_, zero-le, min, max}
@@ -12,7 +12,7 @@ use native.Mathlib.Omega.{arith}
 use lib.Dec.{eqb, eqb·zero-suc, eqb·suc-zero, eqb·suc-suc}
 use lib.Arith.{bin-ind, digits-mod}
 use lib.Pow.{pow-mono, shr-shr}
-use lib.Bits.{bitOr, bitAnd, or-step, and-step, or-shr, and-shr}
+use lib.Bits.{bitOr, bitAnd, bitXor, differ, or-step, and-step, xor-step, or-shr, and-shr, xor-shr}
 use lib.Count.{ones, ones-step, ones-ones}
 use lib.ListN.{length}
 use Rattle.sets.specs.Lists.{keep, RisingAbove, Rising}
@@ -61,6 +61,10 @@ member-or = member-bitwise max _||_ (omega arith, refl) (omega arith, refl) (ome
 
 pub member-and : (x y i : ℕ) → member (bitAnd x y) i ≡ (member x i && member y i)
 member-and = member-bitwise min _&&_ (omega arith, refl) (omega arith, refl) (omega arith, refl) (omega arith, refl) bitAnd and-step and-shr
+
+pub member-xor : (x y i : ℕ) → member (bitXor x y) i ≡ xor (member x i) (member y i)
+unfolding xor
+member-xor = member-bitwise differ xor (omega arith, refl) (omega arith, refl) (omega arith, refl) (omega arith, refl) bitXor xor-step xor-shr
 
 pow-half : (i : ℕ) → 2 ^ suc i / 2 ≡ 2 ^ i
 pow-half i = let e = pow-suc 2 i in omega arith

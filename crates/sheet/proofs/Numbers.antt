@@ -1,16 +1,16 @@
 -- A number and its bytes give each other back, and so do a run of bytes and its parts of one size;
--- what is made of bytes by joining and cutting is bytes.
+-- what is made of bytes by joining and cutting is bytes. A field is split in two, and is the same read in a part of the list.
 -- Assumes nothing.
 use mathlib.Core.Path.{_≡_, refl, sym, ap, ap₂, _∙_, subst}
 use mathlib.Core.List.{List, [], _∷_, _++_, map, map-map, append-assoc, List·Memᴰ, List·Memᴰ·head, List·Memᴰ·tail, Memᴰ·of-map}
-use Prim.Native.Nat.{ℕ, zero, suc, _+_, _*_, _/_, _%_, _^_, _<_, _≤_}
-use native.Mathlib.Nat.{pow-suc, pow-le-pow-right, div-lt-iff-lt-mul, mul-zero, mul-suc, add-comm}
+use Prim.Native.Nat.{ℕ, zero, suc, _+_, _-_, _*_, _/_, _%_, _^_, _<_, _≤_}
+use native.Mathlib.Nat.{pow-suc, pow-le-pow-right, div-lt-iff-lt-mul, mul-zero, mul-suc, mul-assoc, mul-comm, add-comm, add-zero, zero-add, suc-add, add-sub-of-le}
 use native.Mathlib.Omega.{arith}
-use lib.ListN.{length, take, drop, length-take, length-drop, length-append, length-map}
-use lib.Seq.{getD-drop, take-at, drop-at, take-add, length-take-le}
+use lib.ListN.{length, take, drop, getD, length-take, length-drop, length-append, length-map, List·getD-map}
+use lib.Seq.{getD-drop, take-at, drop-at, take-add, take-take, drop-drop, take-nil, length-take-le}
 use lib.Pow.{pow-add}
 use Rattle.sets.specs.Lists.{concat}
-use Rattle.sheet.specs.Numbers.{AreBytes, number, bytes, parts}
+use Rattle.sheet.specs.Numbers.{AreBytes, number, bytes, field, parts}
 
 -- ---- lists of bytes
 
@@ -91,6 +91,61 @@ number-bits k b h fits =
     let more = pow-le-pow-right {n = 256} (omega arith) fits in
     omega (arith, pow-bytes k)
 
+-- ---- a field: split in two, of one byte, and in a part of the list
+
+number-split : (a c : ℕ) (b : List ℕ) → number (take (a + c) b) ≡ number (take a b) + 256 ^ a * number (take c (drop a b))
+number-split zero c b = ap (λ (j : ℕ). number (take j b)) (zero-add c) ∙ omega arith
+number-split (suc a) c [] =
+    ap number (take-nil (suc a + c)) ∙ sym (mul-zero (256 ^ suc a)) ∙ ap (λ (l : List ℕ). 256 ^ suc a * number l) (sym (take-nil c))
+    ∙ sym (zero-add (256 ^ suc a * number (take c [])))
+number-split (suc a) c (d ∷ b) =
+    ap (λ (j : ℕ). number (take j (d ∷ b))) (suc-add a c)
+    ∙ omega (arith, number-split a c b, power)
+  where
+    power : 256 ^ suc a * number (take c (drop a b)) ≡ 256 * (256 ^ a * number (take c (drop a b)))
+    power =
+        ap (λ (x : ℕ). x * number (take c (drop a b))) (pow-suc 256 a ∙ mul-comm (256 ^ a) 256)
+        ∙ mul-assoc 256 (256 ^ a) (number (take c (drop a b)))
+
+pub field-split : (at a c : ℕ) (b : List ℕ) → field at (a + c) b ≡ field at a b + 256 ^ a * field (at + a) c b
+unfolding field
+field-split at a c b =
+    number-split a c (drop at b) ∙ ap (λ (l : List ℕ). number (take a (drop at b)) + 256 ^ a * number (take c l)) (drop-drop a at b)
+
+number-one : (b : List ℕ) → number (take 1 b) ≡ getD b 0 0
+number-one [] = refl
+number-one (d ∷ b) = omega arith
+
+pub field-one : (at : ℕ) (b : List ℕ) → field at 1 b ≡ getD b at 0
+unfolding field
+field-one at b = number-one (drop at b) ∙ getD-drop at b 0 0 ∙ ap (λ (j : ℕ). getD b j 0) (add-zero at)
+
+pub number-part : (at size : ℕ) (b : List ℕ) → number (take size (drop at b)) ≡ field at size b
+unfolding field
+number-part at size b = refl
+
+drop-take-add : (n m : ℕ) (b : List ℕ) → drop n (take (n + m) b) ≡ take m (drop n b)
+drop-take-add zero m b = ap (λ (j : ℕ). take j b) (zero-add m)
+drop-take-add (suc n) m [] = ap (drop (suc n)) (take-nil (suc n + m)) ∙ sym (take-nil m)
+drop-take-add (suc n) m (d ∷ b) = ap (λ (j : ℕ). drop (suc n) (take j (d ∷ b))) (suc-add n m) ∙ drop-take-add n m b
+
+pub drop-take : (n k : ℕ) (b : List ℕ) → n ≤ k → drop n (take k b) ≡ take (k - n) (drop n b)
+drop-take n k b h = ap (λ (j : ℕ). drop n (take j b)) (sym (add-sub-of-le h)) ∙ drop-take-add n (k - n) b
+
+pub field-within : (at size k : ℕ) (b : List ℕ) → at + size ≤ k → field at size (take k b) ≡ field at size b
+unfolding field
+field-within at size k b h =
+    ap (λ (l : List ℕ). number (take size l)) (drop-take at k b (omega arith))
+    ∙ ap number (take-take size (k - at) (drop at b) (omega arith))
+
+pub field-behind : (at size k : ℕ) (b : List ℕ) → field at size (drop k b) ≡ field (k + at) size b
+unfolding field
+field-behind at size k b = ap (λ (l : List ℕ). number (take size l)) (drop-drop at k b)
+
+-- in a part of the list: `len` elements from `k` on
+pub field-part : (at size len k : ℕ) (b : List ℕ) → at + size ≤ len → field at size (take len (drop k b)) ≡ field (k + at) size b
+field-part at size len k b h = field-within at size len (drop k b) h ∙ field-behind at size k b
+
 -- ---- parts of one size
 
 pub parts-length : (size k : ℕ) (b : List ℕ) → length (parts size k b) ≡ k
@@ -125,7 +180,32 @@ pub part-length : (size k : ℕ) (b : List ℕ) → size * k ≤ length b → (p
 part-length size (suc k) b h p (List·Memᴰ·head e) = ap length e ∙ length-take-le size b (omega (arith, mul-suc size k))
 part-length size (suc k) b h p (List·Memᴰ·tail m) = part-length size k (drop size b) (rw length-drop (omega (arith, mul-suc size k))) p m
 
+pub parts-within : (size count len : ℕ) (b : List ℕ) → size * count ≤ len → parts size count (take len b) ≡ parts size count b
+parts-within size zero len b h = refl
+parts-within size (suc count) len b h =
+    let fits : size * count + size ≤ len = omega (arith, mul-suc size count) in
+    ap₂ (λ (p : List ℕ) (r : List (List ℕ)). p ∷ r) (take-take size len b (omega arith))
+    (ap (parts size count) (drop-take size len b (omega arith)) ∙ parts-within size count (len - size) (drop size b) (omega arith))
+
+pub parts-part : (size count len k : ℕ) (b : List ℕ) → size * count ≤ len → parts size count (take len (drop k b)) ≡ parts size count (drop k b)
+parts-part size count len k b h = parts-within size count len (drop k b) h
+
+pub parts-at : (size k : ℕ) (b : List ℕ) (i : ℕ) → i < k → getD (parts size k b) i [] ≡ take size (drop (size * i) b)
+parts-at size zero b i h = absurd (omega arith)
+parts-at size (suc k) b zero h = ap (λ (j : ℕ). take size (drop j b)) (sym (mul-zero size))
+parts-at size (suc k) b (suc i) h =
+    parts-at size k (drop size b) i (omega arith)
+    ∙ ap (take size) (drop-drop (size * i) size b)
+    ∙ ap (λ (j : ℕ). take size (drop j b)) (add-comm size (size * i) ∙ sym (mul-suc size i))
+
 -- ---- numbers of one size, one behind another
+
+pub numbers-length : (size k : ℕ) (b : List ℕ) → length (map number (parts size k b)) ≡ k
+numbers-length size k b = length-map (parts size k b) number ∙ parts-length size k b
+
+pub numbers-at : (size k : ℕ) (b : List ℕ) (i : ℕ) → i < k → getD (map number (parts size k b)) i 0 ≡ field (size * i) size b
+numbers-at size k b i h =
+    List·getD-map number (parts size k b) i [] ∙ ap number (parts-at size k b i h) ∙ number-part (size * i) size b
 
 map-same {ℓ} : {A : Type ℓ} (f : A → A) (l : List A) → ((x : A) → List·Memᴰ x l → f x ≡ x) → map f l ≡ l
 map-same f [] h = refl

@@ -3,7 +3,7 @@
 -- Assumes nothing.
 use mathlib.Core.Path.{_≡_, refl, sym, ap, ap₂, _∙_, subst}
 use mathlib.Core.List.{List, _∷_, _++_, map, append-assoc, List·Memᴰ, Memᴰ·of-map}
-use Prim.Native.Nat.{ℕ, suc, _+_, _-_, _*_, _^_, _<_, _≤_}
+use Prim.Native.Nat.{ℕ, suc, _+_, _-_, _*_, _/_, _^_, _<_, _≤_}
 use native.Mathlib.Omega.{arith}
 use lib.ListN.{length, take, drop, getD, length-append, length-drop, length-map, take-append-drop}
 use lib.Seq.{take-at, drop-at, drop-cons, drop-drop, drop-append-add, length-take-le}
@@ -11,7 +11,7 @@ use Rattle.sheet.specs.Numbers.{AreBytes, number, bytes, field, parts}
 use Rattle.sheet.specs.Layout.{recordsAt, transitionsAt, stepsAt, componentCount, actionCount, closing, mark, front, tablesOf, tables, stepCount, steps}
 use Rattle.sheet.specs.Limits.{InLimits}
 use Rattle.sheet.specs.Writing.{stepBytes, trailer, sheetOf}
-use Rattle.sheet.proofs.Numbers.{bytes-each, bytes-append, bytes-take, bytes-drop, bytes-concat, bytes-are, number-bytes, bytes-number, number-bits, parts-length, part-bytes, part-at-most, length-numbers, numbers-back, bytes-back}
+use Rattle.sheet.proofs.Numbers.{bytes-each, bytes-append, bytes-take, bytes-drop, bytes-concat, bytes-are, number-bytes, bytes-number, number-bits, parts-length, part-bytes, part-at-most, length-numbers, numbers-back, bytes-back, parts-part}
 
 -- ---- the trailer
 
@@ -228,3 +228,17 @@ writes-back b h l =
     (ap (λ (at : ℕ). trailer at (componentCount b) (actionCount b)) (front-length b l)
     ∙ trailer-read b h (omega arith) (l .records-first) (l .transitions-next) (l .closed))
     ∙ sections-joined b l
+
+-- ---- the step section as a part of the sheet
+
+pub section-length : (b : List ℕ) → InLimits b → length (take (length b - 10 - stepsAt b) (drop (stepsAt b) b)) ≡ 8 * stepCount b
+section-length b l = let e = sections-length b l in length-take-le (length b - 10 - stepsAt b) (drop (stepsAt b) b) (rw length-drop (omega arith)) ∙ omega arith
+
+pub section-steps : (b p : List ℕ) → InLimits b → p ≡ take (length b - 10 - stepsAt b) (drop (stepsAt b) b) → map number (parts 8 (length p / 8) p) ≡ steps b
+unfolding steps
+section-steps b p l e =
+    let size = section-length b l in
+    let whole = sections-length b l in
+    let count : length p / 8 ≡ stepCount b = ap (λ (q : List ℕ). length q / 8) e ∙ omega arith in
+    ap₂ (λ (k : ℕ) (q : List ℕ). map number (parts 8 k q)) count e
+    ∙ ap (map number) (parts-part 8 (stepCount b) (length b - 10 - stepsAt b) (stepsAt b) b (omega arith))

@@ -4,3 +4,4 @@ pub mod Limits
 pub mod Refusals
 pub mod Verdict
 pub mod Writing
+pub mod Sections

@@ -6,3 +6,4 @@ pub mod Kept
 pub mod WholeSteps
 pub mod NormalForm
 pub mod Examples
+pub mod Offences

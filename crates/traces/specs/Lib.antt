@@ -1,3 +1,4 @@
 pub mod Words
 pub mod Steps
+pub mod Offences
 pub mod Foata

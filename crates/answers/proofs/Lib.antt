@@ -1,0 +1,11 @@
+pub mod Normal
+pub mod Restated
+pub mod Answers
+pub mod Relations
+pub mod PairAnswers
+pub mod Leaner
+pub mod Figure
+pub mod Stuck
+pub mod Reports
+pub mod Starred
+pub mod Demands

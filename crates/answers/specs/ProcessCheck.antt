@@ -1,0 +1,15 @@
+-- The process check: "after refusals 1 to 12, answers yes, or the index (from 0) of the first step that offends".
+-- Assumes nothing.
+use mathlib.Core.List.{List, map}
+use mathlib.Core.Option.{Option}
+use Prim.Native.Nat.{ℕ}
+use Rattle.sets.specs.Bits.{members}
+use Rattle.systems.specs.Independence.{dependent}
+use Rattle.sheet.specs.Layout.{tables, steps}
+use Rattle.sheet.specs.Verdict.{verdict}
+use Rattle.traces.specs.Offences.{firstOffence}
+use Rattle.answers.specs.Answers.{Answer, given, after}
+
+-- the first step that offends; none is yes
+unfoldable pub processCheck : List ℕ → Answer (Option ℕ)
+processCheck b = after (verdict b) (given (firstOffence (dependent (tables b)) (map members (steps b))))
