@@ -1,0 +1,159 @@
+-- `reading::tables_refused` meets its contract: the checkers' answers, in their order, are the refusals 5 to 8 of the two parts.
+-- The alphabets in the array are those of the records below their number. Assumes nothing.
+use mathlib.Core.Path.{_≡_, refl, sym, ap, _∙_}
+use mathlib.Core.Bool.{Bool, true, false, not}
+use mathlib.Core.List.{List}
+use Prim.Native.Nat.{ℕ, _/_}
+use lib.ListN.{length, getD}
+use Rattle.sets.specs.Lists.{some, below}
+use Rattle.sets.specs.Bits.{member}
+use Rattle.systems.specs.Tables.{Transition, Tables}
+use Rattle.sheet.specs.Numbers.{parts}
+use Rattle.sheet.specs.Layout.{alphabetOf}
+use Rattle.sheet.specs.Refusals.{recordWrong, transitionWrong, risingBytes}
+use Rattle.sheet.specs.Sections.{sectionTables, Alphabets}
+use Rattle.reading.specs.Tests.{unusedIn, misfit, numberIf, tablesNumber}
+use Rattle.reading.proofs.Searching.{some-same, same-below}
+use Rattle.reading.proofs.Sections.{wrong-same}
+use borrow.Author.Needs.{needs}
+use Rattle.reading.proofs.tables_refused.Statement.{statement}
+use Rattle.reading.proofs.tables_refused.Tie as tie
+
+unused-same : (b : List ℕ) (n m : ℕ) (l : List ℕ) → Alphabets (alphabetOf b) n l
+    → unusedIn l n m ≡ some (λ a. not (some (λ j. member (alphabetOf b j) a) (below n))) (below m)
+unused-same b n m l h =
+    same-below (λ a. not (some (λ j. member (getD l j 0) a) (below n))) _ m
+    (λ a k. ap not (same-below (λ j. member (getD l j 0) a) _ n (λ j k. ap (λ (x : ℕ). member x a) (h .each j k))))
+
+-- what is tested, of the arguments at the start
+abbrev wanted : tie.Start → Tables
+wanted c = sectionTables (c .args .records .now) (c .args .section .now) (c .args .n) (c .args .m)
+
+abbrev bad-record : tie.Start → Bool
+bad-record c = some (recordWrong (c .args .records .now) (c .args .m)) (below (c .args .n))
+
+abbrev unused : tie.Start → Bool
+unused c = some (λ a. not (some (λ j. member (alphabetOf (c .args .records .now) j) a) (below (c .args .n)))) (below (c .args .m))
+
+abbrev bad-transition : tie.Start → Bool
+bad-transition c = some (transitionWrong (wanted c)) (wanted c .transitions)
+
+abbrev unordered : tie.Start → Bool
+unordered c = not (risingBytes (parts 4 (length (c .args .section .now) / 4) (c .args .section .now)))
+
+decided : (c : tie.Start) (w x y z : Bool) → w ≡ bad-record c → x ≡ unused c → y ≡ bad-transition c → z ≡ unordered c
+    → numberIf w 5 (numberIf x 6 (numberIf y 7 (numberIf z 8 0)))
+    ≡ tablesNumber (c .args .records .now) (c .args .section .now) (c .args .n) (c .args .m)
+unfolding tablesNumber
+decided c w x y z ew ex ey ez = rw (ew, ex, ey, ez)
+
+-- the same tables, with the alphabets of the array
+abbrev listed : Tables → List ℕ → Tables
+listed T l =
+    record {
+      components = T .components;
+      actions = T .actions;
+      states = T .states;
+      initial = T .initial;
+      alphabet = λ j. getD l j 0;
+      transitions = T .transitions;
+    }
+
+misfit-listed : (T : Tables) (l : List ℕ) (t : Transition) → misfit (T .states) l (T .components) t ≡ transitionWrong (listed T l) t
+unfolding transitionWrong
+misfit-listed T l t = refl
+
+misfit-same : (T : Tables) (l : List ℕ) → Alphabets (T .alphabet) (T .components) l
+    → some (misfit (T .states) l (T .components)) (T .transitions) ≡ some (transitionWrong T) (T .transitions)
+misfit-same T l h =
+    some-same (misfit (T .states) l (T .components)) (transitionWrong T) (T .transitions)
+    (λ t k. misfit-listed T l t ∙ wrong-same (listed T l) T t refl (λ j b. (refl, h .each j b)))
+
+records-wrong-requires : tie.Need-records-wrong-requires
+records-wrong-requires c κs = search needs
+
+returns : tie.Need-returns
+returns c = decided (c .before .before .before .before) true _ _ _ (sym (c .if1 .taken) ∙ c .before .records-wrong .ensures) refl refl refl
+
+records-right : (c : tie.Else1) → false ≡ bad-record (c .before .before .before .before)
+records-right c = sym (c .if1 .left) ∙ c .before .records-wrong .ensures
+
+alphabets-requires : tie.Need-alphabets-requires
+alphabets-requires c κs = search needs
+
+slice-aggregate-action-unused : tie.Need-slice-aggregate-action-unused
+slice-aggregate-action-unused c = search needs
+
+cast-action-unused : tie.Need-cast-action-unused
+cast-action-unused c = search needs
+
+action-unused-requires : tie.Need-action-unused-requires
+action-unused-requires c κs = search needs
+
+unused-told : (c : tie.After-action-unused) → c .action-unused .result ≡ unused (c .before .before .before .before .before .before .before)
+unused-told c =
+    let s = c .before .before .before .before .before .before .before in
+    let found = c .before .before .alphabets in
+    c .action-unused .ensures ∙ unused-same (s .args .records .now) (s .args .n) (s .args .m) (found .result) (found .ensures)
+
+returns-2 : tie.Need-returns-2
+returns-2 c =
+    let right = c .before .before .before .before in
+    decided (right .before .before .before .before) false true _ _ (records-right right) (sym (c .if2 .taken) ∙ unused-told (c .before)) refl refl
+
+slice-aggregate-transitions-wrong : tie.Need-slice-aggregate-transitions-wrong
+slice-aggregate-transitions-wrong c = search needs
+
+transitions-wrong-requires : tie.Need-transitions-wrong-requires
+transitions-wrong-requires c κs = search needs
+
+transitions-told : (c : tie.After-transitions-wrong)
+    → c .transitions-wrong .result ≡ bad-transition (c .before .before .before .before .before .before .before .before .before .before)
+transitions-told c =
+    let found = c .before .before .before .before .before .alphabets in
+    c .transitions-wrong .ensures
+    ∙ misfit-same (wanted (c .before .before .before .before .before .before .before .before .before .before)) (found .result) (found .ensures)
+
+returns-3 : tie.Need-returns-3
+returns-3 c =
+    let used = c .before .before .before in
+    let right = used .before .before .before .before in
+    decided (right .before .before .before .before) false false true _ (records-right right) (sym (used .if2 .left) ∙ unused-told (used .before))
+    (sym (c .if3 .taken) ∙ transitions-told (c .before)) refl
+
+order-wrong-requires : tie.Need-order-wrong-requires
+order-wrong-requires c κs = search needs
+
+-- the answer where refusals 5 to 7 do not hold
+last : (c : tie.Else3) (z : Bool) → z ≡ unordered (c .before .before .before .before .before .before .before .before .before .before .before)
+    → let a = c .before .before .before .before .before .before .before .before .before .before .before .args in
+    numberIf z 8 0 ≡ tablesNumber (a .records .now) (a .section .now) (a .n) (a .m)
+last c z e =
+    let used = c .before .before .before in
+    let right = used .before .before .before .before in
+    decided (right .before .before .before .before) false false false z (records-right right) (sym (used .if2 .left) ∙ unused-told (used .before))
+    (sym (c .if3 .left) ∙ transitions-told (c .before)) e
+
+returns-4 : tie.Need-returns-4
+returns-4 c = last (c .before .before) true (sym (c .if4 .taken) ∙ c .before .order-wrong .ensures)
+
+returns-5 : tie.Need-returns-5
+returns-5 c = last (c .before .before) false (sym (c .if4 .left) ∙ c .before .order-wrong .ensures)
+
+pub tables-refused-spec : {M : Type 1} → statement M
+tables-refused-spec =
+    tie.close
+    (tie.spec
+    records-wrong-requires
+    returns
+    alphabets-requires
+    slice-aggregate-action-unused
+    cast-action-unused
+    action-unused-requires
+    returns-2
+    slice-aggregate-transitions-wrong
+    transitions-wrong-requires
+    returns-3
+    order-wrong-requires
+    returns-4
+    returns-5)
