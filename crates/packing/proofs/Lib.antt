@@ -1,0 +1,3 @@
+pub mod Dependences
+pub mod Showing
+pub mod Sections
