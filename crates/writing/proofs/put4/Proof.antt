@@ -1,0 +1,48 @@
+-- `writing::put4` meets its contract: its bytes are the two of its low half and then those of its high half.
+-- Assumes nothing.
+use mathlib.Core.Path.{refl, sym, ap, _∙_}
+use mathlib.Core.List.{List}
+use Prim.Native.Nat.{ℕ, _/_}
+use Rattle.sheet.specs.Numbers.{bytes}
+use Rattle.writing.specs.Sections.{over}
+use Rattle.writing.proofs.Lending.{lent-over, bytes-split}
+use borrow.Author.Needs.{needs}
+use Rattle.writing.proofs.put4.Statement.{statement}
+use Rattle.writing.proofs.put4.Tie as tie
+
+put2-requires : tie.Need-put2-requires
+put2-requires c κs = search needs
+
+sub-put2 : tie.Need-sub-put2
+sub-put2 c = search needs
+
+part-put2-start : tie.Need-part-put2-start
+part-put2-start c = search needs
+
+part-put2-end : tie.Need-part-put2-end
+part-put2-end c = search needs
+
+put2-requires-2 : tie.Need-put2-requires-2
+put2-requires-2 c κs = search needs
+
+same-length : tie.Need-same-length
+same-length c = search needs
+
+returns : tie.Need-returns
+returns c =
+    let x = c .before .before .before .before .before .before .before .before .before .args .x in
+    let out = c .before .before .before .before .before .before .before .before .before .args .out .now in
+    lent-over (bytes 2 x) (bytes 2 (x / 65536)) out (c .before .before .before .before .before .before .put2 .ensures) refl refl (c .before .before .put22 .ensures)
+    ∙ ap (λ (l : List ℕ). over l out) (sym (bytes-split 2 2 x))
+
+pub put4-spec : {M : Type 1} → statement M
+put4-spec =
+    tie.close
+    (tie.spec
+    put2-requires
+    sub-put2
+    part-put2-start
+    part-put2-end
+    put2-requires-2
+    same-length
+    returns)

@@ -1,0 +1,48 @@
+-- `writing::put8` meets its contract: its bytes are the four of its low half and then those of its high half.
+-- Assumes nothing.
+use mathlib.Core.Path.{refl, sym, ap, _∙_}
+use mathlib.Core.List.{List}
+use Prim.Native.Nat.{ℕ, _/_}
+use Rattle.sheet.specs.Numbers.{bytes}
+use Rattle.writing.specs.Sections.{over}
+use Rattle.writing.proofs.Lending.{lent-over, bytes-split}
+use borrow.Author.Needs.{needs}
+use Rattle.writing.proofs.put8.Statement.{statement}
+use Rattle.writing.proofs.put8.Tie as tie
+
+put4-requires : tie.Need-put4-requires
+put4-requires c κs = search needs
+
+sub-put4 : tie.Need-sub-put4
+sub-put4 c = search needs
+
+part-put4-start : tie.Need-part-put4-start
+part-put4-start c = search needs
+
+part-put4-end : tie.Need-part-put4-end
+part-put4-end c = search needs
+
+put4-requires-2 : tie.Need-put4-requires-2
+put4-requires-2 c κs = search needs
+
+same-length : tie.Need-same-length
+same-length c = search needs
+
+returns : tie.Need-returns
+returns c =
+    let x = c .before .before .before .before .before .before .before .before .before .args .x in
+    let out = c .before .before .before .before .before .before .before .before .before .args .out .now in
+    lent-over (bytes 4 x) (bytes 4 (x / 4294967296)) out (c .before .before .before .before .before .before .put4 .ensures) refl refl (c .before .before .put42 .ensures)
+    ∙ ap (λ (l : List ℕ). over l out) (sym (bytes-split 4 4 x))
+
+pub put8-spec : {M : Type 1} → statement M
+put8-spec =
+    tie.close
+    (tie.spec
+    put4-requires
+    sub-put4
+    part-put4-start
+    part-put4-end
+    put4-requires-2
+    same-length
+    returns)
