@@ -1,0 +1,2 @@
+pub mod Offences
+pub mod Meeting
