@@ -1,0 +1,126 @@
+-- From what the reader and the run answer to the verdict and the end sets of the sheet.
+-- Assumes nothing.
+use mathlib.Core.Path.{_≡_, refl, sym, ap, ap₂, _∙_, subst}
+use mathlib.Core.Logic.{_⊎_, inl, inr}
+use mathlib.Core.Bool.{Bool, true, false, cond}
+use mathlib.Core.List.{List, map}
+use mathlib.Core.Option.{Option, none, some as just}
+use Prim.Native.Nat.{ℕ, _-_, _/_, _<_, _≤_}
+use native.Mathlib.Omega.{arith}
+use lib.Dec.{ltb}
+use lib.ListN.{length, take, drop, getD, replicate, length-take}
+use Rattle.sets.specs.Lists.{below}
+use Rattle.sets.proofs.Bools.{true-or-false, ltb-true}
+use Rattle.systems.specs.Tables.{Tables}
+use Rattle.systems.specs.Running.{start, fireAll}
+use Rattle.systems.specs.Checking.{firstFault, flat}
+use Rattle.sheet.specs.Numbers.{number, parts}
+use Rattle.sheet.specs.Layout.{transitionsAt, stepsAt, componentCount, actionCount, front, tablesOf, tables, steps}
+use Rattle.sheet.specs.Limits.{InLimits}
+use Rattle.sheet.specs.Verdict.{Verdict, accepted, refused, ofFault, stepsVerdict, verdict}
+use Rattle.sheet.proofs.Limits.{limits-exact}
+use Rattle.sheet.proofs.Passing.{checked, Passing, stops, passes, verdict-checked, passing}
+use Rattle.sheet.proofs.RoundTrip.{section-steps}
+use Rattle.reading.specs.declared.Reading.{Reading}
+use Rattle.reading.specs.declared.Reading.the-variants.{Accepted as sound, Refused as turned}
+use Rattle.reading.specs.Reading.{readingOf}
+use Rattle.engine.specs.declared.Ran.{Ran}
+use Rattle.engine.specs.declared.Ran.the-variants.{Done, Faulty}
+use Rattle.engine.specs.Ran.{faultOf}
+use Rattle.answers.specs.EndSets.{endSet}
+use Rattle.desk.specs.Calls.{RunRight, keptOf, endArrayBy}
+use Rattle.moves.specs.Prepared.{Sound}
+use Rattle.desk.proofs.Running.{map-below, sound-front}
+
+-- what is known of a sheet that passed refusals 1 to 9, with the sizes that were read
+pub record Passed (b : List ℕ) (n m t s : ℕ) : Type 0 where
+  pub limits : InLimits b
+  pub n-read : n ≡ componentCount b
+  pub m-read : m ≡ actionCount b
+  pub t-read : t ≡ transitionsAt b
+  pub s-read : s ≡ stepsAt b
+  pub then : (v : Verdict) → checked b v ≡ v
+
+pub read-passed : (b : List ℕ) (n m t s : ℕ) → sound n m t s ≡ readingOf b (checked b accepted) → Passed b n m t s
+read-passed b n m t s e = go (passing b)
+  where
+    go : Passing b → Passed b n m t s
+    go (stops k h) =
+        let c : sound n m t s ≡ turned k 0 = e ∙ ap (readingOf b) (h accepted) in
+        let z : _≡_ {A = ℕ} 0 1 = cc in absurd (omega arith)
+    go (passes none-holds h) =
+        let c : sound n m t s ≡ sound (componentCount b) (actionCount b) (transitionsAt b) (stepsAt b) = e ∙ ap (readingOf b) (h accepted) in
+        record { limits = limits-exact b .0 none-holds; n-read = cc; m-read = cc; t-read = cc; s-read = cc; then = h }
+
+pub read-stopped : (b : List ℕ) (k i : ℕ) → turned k i ≡ readingOf b (checked b accepted) → verdict b ≡ refused k i
+read-stopped b k i e = go (passing b)
+  where
+    go : Passing b → verdict b ≡ refused k i
+    go (stops l h) =
+        let c : turned k i ≡ turned l 0 = e ∙ ap (readingOf b) (h accepted) in
+        let p : l ≡ k = cc in
+        let q : 0 ≡ i = cc in
+        verdict-checked b ∙ h (stepsVerdict b) ∙ ap₂ refused p q
+    go (passes none-holds h) =
+        let c : turned k i ≡ readingOf b accepted = e ∙ ap (readingOf b) (h accepted) in
+        let z : _≡_ {A = ℕ} 0 1 = cc in absurd (omega arith)
+
+-- the zeros that stand beside a refusal
+pub zeros-told : (b : List ℕ) (k i : ℕ) → verdict b ≡ refused k i → replicate 16 0 ≡ endArrayBy (verdict b) b
+zeros-told b k i e = ap (λ (v : Verdict). endArrayBy v b) (sym e)
+
+module _ (b : List ℕ) (n m t s : ℕ) (P : Passed b n m t s) where
+  same-tables : tablesOf (take s b) n m ≡ tables b
+  unfolding tables front
+  same-tables =
+      ap (λ (k : ℕ). tablesOf (take k b) n m) (P .s-read)
+      ∙ ap₂ (λ (x y : ℕ). tablesOf (take (stepsAt b) b) x y) (P .n-read) (P .m-read)
+
+  same-steps : map number (parts 8 (length (take (length b - 10 - s) (drop s b)) / 8) (take (length b - 10 - s) (drop s b))) ≡ steps b
+  same-steps = section-steps b _ (P .limits) (ap (λ (k : ℕ). take (length b - 10 - k) (drop k b)) (P .s-read))
+
+  -- the run over the parts is the run of the sheet
+  pub run-sheet : (r : Ran) (held : List ℕ)
+      → RunRight (tablesOf (take s b) n m)
+      (map number (parts 8 (length (take (length b - 10 - s) (drop s b)) / 8) (take (length b - 10 - s) (drop s b)))) r held
+      → RunRight (tables b) (steps b) r held
+  run-sheet r held h =
+      subst (λ (xs : List ℕ). RunRight (tables b) xs r held) same-steps
+      (subst (λ (T : Tables). RunRight T
+      (map number (parts 8 (length (take (length b - 10 - s) (drop s b)) / 8) (take (length b - 10 - s) (drop s b)))) r held) same-tables h)
+
+  pub run-verdict : (r : Ran) (held : List ℕ) → RunRight (tables b) (steps b) r held → verdict b ≡ ofFault (faultOf r)
+  unfolding stepsVerdict
+  run-verdict r held h = verdict-checked b ∙ P .then (stepsVerdict b) ∙ ap ofFault (sym (h .answer))
+
+  -- the sets kept of an accepted run are the array of end sets
+  pub ends-told : (r : Ran) (held : List ℕ) → RunRight (tables b) (steps b) r held → r ≡ Done
+      → map (keptOf held n) (below 16) ≡ endArrayBy (verdict b) b
+  unfolding endSet tables tablesOf
+  ends-told r held h e =
+      map-below (keptOf held n) (λ j. cond (ltb j (componentCount b)) (endSet b j) 0) 16 (λ j l. each j)
+      ∙ ap (λ (v : Verdict). endArrayBy v b) (sym (run-verdict r held h ∙ ap (λ (x : Ran). ofFault (faultOf x)) e))
+    where
+      each : (j : ℕ) → keptOf held n j ≡ cond (ltb j (componentCount b)) (endSet b j) 0
+      each j = rw (P .n-read) (go (ltb j (componentCount b)) refl)
+        where
+          go : (c : Bool) → ltb j (componentCount b) ≡ c → cond c (getD held j 0) 0 ≡ cond c (endSet b j) 0
+          go true q = h .ends e j (ltb-true j (componentCount b) .0 q)
+          go false q = refl
+
+  -- what the parts handed on must meet
+  pub steps-end : s ≤ length b - 10
+  steps-end = let r = P .s-read in let k = P .limits .trailer-last .2 in omega arith
+
+  pub passed-sound : Sound (take s b) n m
+  unfolding front
+  passed-sound =
+      rw (P .s-read, P .n-read, P .m-read) (sound-front b (P .limits))
+
+  pub section-short : length (take (length b - 10 - s) (drop s b)) ≤ 8192
+  section-short =
+      let k = P .limits .trailer-last in
+      let few = k .1 in
+      let whole = k .2 in
+      let r = P .s-read in
+      rw length-take (omega arith)
