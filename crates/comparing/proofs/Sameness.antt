@@ -1,0 +1,31 @@
+-- Two lists of numbers compared one by one: the first difference tells them apart, and without one they are the same.
+-- Assumes nothing.
+use mathlib.Core.Path.{_≡_, sym, ap}
+use mathlib.Core.Bool.{true, false}
+use mathlib.Core.List.{List}
+use Prim.Native.Nat.{ℕ, _≤_, _<_}
+use native.Mathlib.Omega.{arith}
+use lib.ListN.{length, getD}
+use lib.Seq.{ext-getD}
+use Rattle.sets.proofs.Bools.{false-iff}
+use Rattle.sheet.specs.Refusals.{sameBytes}
+use Rattle.sheet.proofs.Limits.{same-bytes}
+
+-- the lists are as long as each other, and the same below i
+pub record SameTo (a b : List ℕ) (i : ℕ) : Type 0 where
+  pub within : i ≤ length a
+  pub as-long : length a ≡ length b
+  pub passed : (k : ℕ) → k < i → getD a k 0 ≡ getD b k 0
+
+module _ (a b : List ℕ) where
+  pub lists-apart : ¬ (a ≡ b) → false ≡ sameBytes a b
+  lists-apart n = sym (false-iff (sameBytes a b) .1 (λ e. n (same-bytes a b .0 e)))
+
+  pub apart-length : ¬ (length a ≡ length b) → false ≡ sameBytes a b
+  apart-length n = lists-apart (λ e. n (ap length e))
+
+  pub apart-at : (i : ℕ) → ¬ (getD a i 0 ≡ getD b i 0) → false ≡ sameBytes a b
+  apart-at i n = lists-apart (λ e. n (ap (λ (l : List ℕ). getD l i 0) e))
+
+  pub same-all : (i : ℕ) → SameTo a b i → length a ≤ i → true ≡ sameBytes a b
+  same-all i p l = sym (same-bytes a b .1 (ext-getD 0 a b (p .as-long) (λ k h. p .passed k (omega arith))))

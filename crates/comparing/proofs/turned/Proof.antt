@@ -1,0 +1,23 @@
+-- `comparing::turned` meets its contract: a refusal read as that of a pair.
+-- Assumes nothing.
+use mathlib.Core.Path.{sym, ap}
+use Rattle.reading.specs.declared.Reading.{Reading}
+use Rattle.comparing.specs.Pairing.{turnedOf}
+use borrow.Author.Needs.{needs}
+use Rattle.comparing.proofs.turned.Statement.{statement}
+use Rattle.comparing.proofs.turned.Tie as tie
+
+enum-known-read : tie.Need-enum-known-read
+enum-known-read c = search needs
+
+enum-known-read-2 : tie.Need-enum-known-read-2
+enum-known-read-2 c = search needs
+
+returns : tie.Need-returns
+returns c = ap (λ (x : Reading). turnedOf x (c .before .before .before .args .sheet)) (sym (c .before .read .given .1))
+
+returns-2 : tie.Need-returns-2
+returns-2 c = ap (λ (x : Reading). turnedOf x (c .before .before .before .args .sheet)) (sym (c .before .read2 .given .1))
+
+pub turned-spec : {M : Type 1} → statement M
+turned-spec = tie.close (tie.spec enum-known-read enum-known-read-2 returns returns-2)
