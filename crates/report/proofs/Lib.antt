@@ -1,0 +1,5 @@
+pub mod Figures
+pub mod EndArrays
+pub mod Writers
+pub mod Bounds
+pub mod Texts
