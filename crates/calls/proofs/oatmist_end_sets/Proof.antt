@@ -1,0 +1,47 @@
+-- `calls::oatmist_end_sets` meets its contract: the number is that of the reader's answer, and the sets are the desk's.
+-- Assumes nothing.
+use mathlib.Core.Path.{ap, _∙_}
+use mathlib.Core.List.{List}
+use Prim.Native.Nat.{ℕ}
+use borrow.Author.Needs.{needs}
+use Rattle.sheet.specs.Verdict.{verdict}
+use Rattle.calls.specs.Told.{filled, readNumber}
+use Rattle.calls.proofs.Telling.{number-told}
+use Rattle.calls.proofs.oatmist_end_sets.Statement.{statement}
+use Rattle.calls.proofs.oatmist_end_sets.Tie as tie
+
+end-sets-requires : tie.Need-end-sets-requires
+end-sets-requires c κs = search needs
+
+slice-aggregate-fill : tie.Need-slice-aggregate-fill
+slice-aggregate-fill c = search needs
+
+fill-requires : tie.Need-fill-requires
+fill-requires c κs = search needs
+
+read-number-requires : tie.Need-read-number-requires
+read-number-requires c κs = search needs
+
+same-length : tie.Need-same-length
+same-length c = search needs
+
+returns : tie.Need-returns
+returns c =
+    let f = c .before .before .before in
+    let marked = f .before .before .before .before in
+    let a = marked .before .before .before .args in
+    let b = a .sheet .now in (
+      c .read-number .ensures ∙ ap readNumber (marked .end-sets .ensures .verdict-told) ∙ number-told b (verdict b),
+      f .fill .ensures ∙ ap (λ (l : List ℕ). filled l (a .ends .now)) (marked .end-sets .ensures .sets-told),
+    )
+
+pub oatmist-end-sets-spec : {M : Type 1} → statement M
+oatmist-end-sets-spec =
+    tie.close
+    (tie.spec
+    end-sets-requires
+    slice-aggregate-fill
+    fill-requires
+    read-number-requires
+    same-length
+    returns)
