@@ -1,11 +1,16 @@
 //! The proved library against the second implementation, on random sheets: the verdict, the sizes,
-//! the end sets, the process check, the restated bytes, and every byte of what was lent.
+//! the end sets, the process check, the restated bytes, the figure, stuck and the printed text; and
+//! on random pairs: same work, which sheet is leaner, and the part that is handed back. Every byte
+//! of what was lent is compared too.
 //!
 //! Usage: compare [SHEETS] [SEED]
 //!
 //! Each buffer is a middle part of a larger vector of random content. What the vector must hold
 //! after the call is put together before it, so that one comparison sees a byte written too much,
 //! one too little, and any byte written by a refused call.
+
+// Slices are passed to the library as they are to C: a pointer and a length.
+#![allow(improper_ctypes_definitions)]
 
 #[allow(dead_code)]
 mod plain;
@@ -25,14 +30,29 @@ extern "C" {
     fn oatmist_process(sheet: &[u8], answer: &mut [u64]) -> u64;
     /// 0 and the bytes written; or the refusal's number, 13 last, and index.
     fn oatmist_restate(sheet: &[u8], out: &mut [u8], answer: &mut [u64]) -> u64;
+    /// 0 and the figure; or the refusal's number and index.
+    fn oatmist_figure(sheet: &[u8], answer: &mut [u64]) -> u64;
+    /// 0 and 1 for stuck, else 0; or the refusal's number and index.
+    fn oatmist_stuck(sheet: &[u8], answer: &mut [u64]) -> u64;
+    /// 0 and the length of the text; or 1 and 0 where the output is too short.
+    fn oatmist_report(sheet: &[u8], out: &mut [u8], answer: &mut [u64]) -> u64;
+    /// 0 and 1 for the same work, else 0, and 0; or the refusal's number, index and sheet.
+    fn oatmist_same_work(first: &[u8], second: &[u8], answer: &mut [u64]) -> u64;
+    /// 0 and 0 for the first or 1 for the second, and 0; or the refusal's number, index and sheet.
+    fn oatmist_winner(first: &[u8], second: &[u8], answer: &mut [u64]) -> u64;
+    /// The step section of the leaner sheet, in the caller's own bytes; an empty part where refused.
+    fn oatmist_leaner<'a>(first: &'a [u8], second: &'a [u8], part: &mut &'a [u8]);
 }
 
-/// Differing sheets after which the comparison stops.
+/// Differing sheets or pairs after which the comparison stops.
 const ENOUGH: u64 = 10;
 
-/// Sheets that a class must have at least, in a run of the usual length.
+/// Sheets or pairs that a class must have at least, in a run of the usual length.
 const LEAST: u64 = 50;
-const USUAL: u64 = 40_000;
+const USUAL: u64 = 30_000;
+
+/// One pair for so many sheets.
+const PAIR_SHARE: u64 = 6;
 
 fn main() {
     let count = argument(1, USUAL);
@@ -47,31 +67,45 @@ fn main() {
         let verdict = plain::verdict(&case.bytes);
         classes.count(&case.bytes, &verdict);
         let differences = compare(&mut tally, &mut dice, &case.bytes, &verdict);
-        if !differences.is_empty() {
-            differing += 1;
-            if differing == 1 {
-                println!("first differing sheet ({}):", case.kind);
-                println!("{}", hex(&case.bytes));
-                for difference in &differences {
-                    println!("  {difference}");
-                }
-            }
-            if differing == ENOUGH {
-                println!("{ENOUGH} sheets differ; stopped");
-                tally.finish()
-            }
+        if show(&mut differing, case.kind, &[&case.bytes], &differences) {
+            tally.finish()
         }
     }
     tally.part("sheets");
-    for number in 0..(count / 10) as usize {
+    for number in 0..(count / PAIR_SHARE) as usize {
         let (first, second, _) = sheets::two_sheets(&mut dice, number);
-        compare_pair(&mut tally, &mut dice, &first, &second);
+        classes.count_pair(&first, &second);
+        let differences = compare_pair(&mut tally, &mut dice, &first, &second);
+        if show(&mut differing, "pair", &[&first, &second], &differences) {
+            tally.finish()
+        }
     }
-    tally.part("restated pairs");
+    tally.part("pairs");
     // Shorter runs are judged by the share that they have of the usual length.
     let least = LEAST * count.min(USUAL) / USUAL;
     classes.print(&mut tally, least);
     tally.finish()
+}
+
+/// Prints the first sheet or pair that differs; whether there were enough of them.
+fn show(differing: &mut u64, kind: &str, given: &[&[u8]], differences: &[String]) -> bool {
+    if differences.is_empty() {
+        return false;
+    }
+    *differing += 1;
+    if *differing == 1 {
+        println!("first differing sheet ({kind}):");
+        for bytes in given {
+            println!("{}", hex(bytes));
+        }
+        for difference in differences {
+            println!("  {difference}");
+        }
+    }
+    if *differing == ENOUGH {
+        println!("{ENOUGH} sheets or pairs differ; stopped");
+    }
+    *differing == ENOUGH
 }
 
 // ---------------------------------------------------------------------------------------------
@@ -93,6 +127,11 @@ impl<T: Copy + PartialEq> Lent<T> {
 
     fn part(&mut self) -> &mut [T] {
         &mut self.whole[self.start..self.start + self.length]
+    }
+
+    /// The lent part, to be read only.
+    fn read(&self) -> &[T] {
+        &self.whole[self.start..self.start + self.length]
     }
 
     /// What the whole vector must hold once these entries stand at the front of the lent part, as
@@ -133,6 +172,14 @@ fn lent_sheet(dice: &mut Dice, bytes: &[u8]) -> Lent<u8> {
 // ---------------------------------------------------------------------------------------------
 // One sheet
 
+/// The refusal's number and index, or zeros.
+fn refusal_of(verdict: &Result<plain::Sheet, plain::Refusal>) -> (u64, u64) {
+    match verdict {
+        Ok(_) => (0, 0),
+        Err((number, index)) => (*number, *index as u64),
+    }
+}
+
 /// Every call on one sheet; the texts of what differs.
 fn compare(
     tally: &mut Tally,
@@ -141,100 +188,141 @@ fn compare(
     verdict: &Result<plain::Sheet, plain::Refusal>,
 ) -> Vec<String> {
     let mut differences = Vec::new();
-    let mut sheet = lent_sheet(dice, bytes);
+    let sheet = lent_sheet(dice, bytes);
     let before = sheet.whole.clone();
-    let (number, index) = match verdict {
-        Ok(_) => (0, 0),
-        Err((number, index)) => (*number, *index as u64),
-    };
+    compare_answers(tally, dice, &mut differences, sheet.read(), verdict);
+    compare_restated(tally, dice, &mut differences, sheet.read(), verdict);
+    compare_report(tally, dice, &mut differences, sheet.read(), verdict);
+    note(tally, &mut differences, sheet.whole == before, || {
+        "the sheet itself changed".into()
+    });
+    differences
+}
 
-    let sizes = match verdict {
-        Ok(sheet) => [0, sheet.n as u64, sheet.m as u64, sheet.t as u64, sheet.s as u64],
-        Err(_) => [index, 0, 0, 0, 0],
-    };
-    let mut answer = lent_answer(dice, 5);
-    let expected = answer.after(&sizes);
-    let told = unsafe { oatmist_check(sheet.part(), answer.part()) };
-    note(
-        tally,
-        &mut differences,
-        told == number && answer.whole == expected,
-        || format!("check: {told} {:?}, not {number} {sizes:?}", answer.part()),
-    );
-
-    let mut ends = [0; 16];
+/// The calls that answer by a number and some values.
+fn compare_answers(
+    tally: &mut Tally,
+    dice: &mut Dice,
+    differences: &mut Vec<String>,
+    sheet: &[u8],
+    verdict: &Result<plain::Sheet, plain::Refusal>,
+) {
+    let (number, index) = refusal_of(verdict);
+    let mut sizes = vec![index, 0, 0, 0, 0];
+    let mut ends = vec![0; 16];
+    let (mut process, mut figure, mut stuck) = (vec![index], vec![index], vec![index]);
     if let Ok(sheet) = verdict {
+        sizes = [0, sheet.n, sheet.m, sheet.t, sheet.s].map(|size| size as u64).to_vec();
         for (j, end) in sheet.ends.iter().enumerate() {
             ends[j] = plain::members(end).iter().fold(0, |set, state| set | 1 << state);
         }
+        process = vec![sheet.process().map_or(0, |offence| 1 + offence as u64)];
+        figure = vec![sheet.figure()];
+        stuck = vec![u64::from(sheet.stuck())];
     }
-    let mut answer = lent_answer(dice, 16);
-    let expected = answer.after(&ends);
-    let told = unsafe { oatmist_end_sets(sheet.part(), answer.part()) };
-    note(
-        tally,
-        &mut differences,
-        told == number && answer.whole == expected,
-        || format!("end sets: {told} {:?}, not {number} {ends:?}", answer.part()),
-    );
+    type Call = unsafe extern "C" fn(&[u8], &mut [u64]) -> u64;
+    let calls: [(&str, Call, Vec<u64>); 5] = [
+        ("check", oatmist_check, sizes),
+        ("end sets", oatmist_end_sets, ends),
+        ("process check", oatmist_process, process),
+        ("figure", oatmist_figure, figure),
+        ("stuck", oatmist_stuck, stuck),
+    ];
+    for (name, call, values) in calls {
+        let mut answer = lent_answer(dice, values.len());
+        let expected = answer.after(&values);
+        let told = unsafe { call(sheet, answer.part()) };
+        note(
+            tally,
+            differences,
+            told == number && answer.whole == expected,
+            || format!("{name}: {told} {:?}, not {number} {values:?}", answer.part()),
+        );
+    }
+}
 
-    let process = match verdict {
-        Ok(sheet) => sheet.process().map_or(0, |offence| 1 + offence as u64),
-        Err(_) => index,
-    };
+/// A call that writes to an output of a length: what it must return, its value, and the front of
+/// the output.
+struct Written<'a> {
+    name: &'a str,
+    call: unsafe extern "C" fn(&[u8], &mut [u8], &mut [u64]) -> u64,
+    number: u64,
+    value: u64,
+    front: &'a [u8],
+}
+
+fn compare_written(
+    tally: &mut Tally,
+    dice: &mut Dice,
+    differences: &mut Vec<String>,
+    sheet: &[u8],
+    length: usize,
+    written: &Written,
+) {
+    let Written { name, call, number, value, front } = *written;
+    let mut out = Lent::new(dice, length, any_byte);
     let mut answer = lent_answer(dice, 1);
-    let expected = answer.after(&[process]);
-    let told = unsafe { oatmist_process(sheet.part(), answer.part()) };
+    let (expected_out, expected) = (out.after(front), answer.after(&[value]));
+    let told = unsafe { call(sheet, out.part(), answer.part()) };
     note(
         tally,
-        &mut differences,
+        differences,
         told == number && answer.whole == expected,
-        || {
-            format!(
-                "process check: {told} {:?}, not {number} {process}",
-                answer.part()
-            )
-        },
+        || format!("{name} into {length}: {told} {:?}, not {number} {value}", answer.part()),
     );
+    note(tally, differences, out.whole == expected_out, || {
+        let at = (0..expected_out.len())
+            .find(|&i| out.whole[i] != expected_out[i])
+            .unwrap_or(0);
+        format!(
+            "{name} into {length}: byte {} of the lent part is {:02x}, not {:02x}",
+            at as i64 - out.start as i64,
+            out.whole[at],
+            expected_out[at]
+        )
+    });
+}
 
+fn compare_restated(
+    tally: &mut Tally,
+    dice: &mut Dice,
+    differences: &mut Vec<String>,
+    sheet: &[u8],
+    verdict: &Result<plain::Sheet, plain::Refusal>,
+) {
+    let (number, index) = refusal_of(verdict);
     let restated = verdict.as_ref().ok().map(|sheet| sheet.restated());
-    for length in buffer_lengths(dice, bytes.len(), restated.as_ref().map(|out| out.len())) {
+    let exact = restated.as_ref().map(|out| out.len());
+    for length in buffer_lengths(dice, sheet.len(), exact) {
         let (number, value, front): (u64, u64, &[u8]) = match &restated {
             None => (number, index, &[]),
             Some(out) if length < out.len() => (13, 0, &[]),
             Some(out) => (0, out.len() as u64, out),
         };
-        let mut out = Lent::new(dice, length, any_byte);
-        let mut answer = lent_answer(dice, 1);
-        let (expected_out, expected) = (out.after(front), answer.after(&[value]));
-        let told = unsafe { oatmist_restate(sheet.part(), out.part(), answer.part()) };
-        note(
-            tally,
-            &mut differences,
-            told == number && answer.whole == expected,
-            || {
-                format!(
-                    "restate into {length}: {told} {:?}, not {number} {value}",
-                    answer.part()
-                )
-            },
-        );
-        note(tally, &mut differences, out.whole == expected_out, || {
-            let at = (0..expected_out.len())
-                .find(|&i| out.whole[i] != expected_out[i])
-                .unwrap_or(0);
-            format!(
-                "restate into {length}: byte {} of the lent part is {:02x}, not {:02x}",
-                at as i64 - out.start as i64,
-                out.whole[at],
-                expected_out[at]
-            )
-        });
+        let (name, call) = ("restate", oatmist_restate as _);
+        let written = Written { name, call, number, value, front };
+        compare_written(tally, dice, differences, sheet, length, &written);
     }
-    note(tally, &mut differences, sheet.whole == before, || {
-        "the sheet itself changed".into()
-    });
-    differences
+}
+
+fn compare_report(
+    tally: &mut Tally,
+    dice: &mut Dice,
+    differences: &mut Vec<String>,
+    sheet: &[u8],
+    verdict: &Result<plain::Sheet, plain::Refusal>,
+) {
+    let text = plain::report_of(verdict);
+    for length in buffer_lengths(dice, sheet.len(), Some(text.len())) {
+        let (number, value, front): (u64, u64, &[u8]) = if length < text.len() {
+            (1, 0, &[])
+        } else {
+            (0, text.len() as u64, text.as_bytes())
+        };
+        let (name, call) = ("report", oatmist_report as _);
+        let written = Written { name, call, number, value, front };
+        compare_written(tally, dice, differences, sheet, length, &written);
+    }
 }
 
 fn note(tally: &mut Tally, differences: &mut Vec<String>, same: bool, text: impl FnOnce() -> String) {
@@ -263,37 +351,86 @@ fn buffer_lengths(dice: &mut Dice, sheet: usize, exact: Option<usize>) -> Vec<us
 // ---------------------------------------------------------------------------------------------
 // Two sheets
 
-/// The restated bytes by the library, or the refusal's number.
-fn restated_by_library(dice: &mut Dice, bytes: &[u8]) -> Result<Vec<u8>, u64> {
-    let mut sheet = lent_sheet(dice, bytes);
-    let mut out = Lent::new(dice, 16_650, |_| 0xee);
-    let mut answer = [0];
-    match unsafe { oatmist_restate(sheet.part(), out.part(), &mut answer) } {
-        0 => Ok(out.part()[..(answer[0] as usize).min(16_650)].to_vec()),
-        number => Err(number),
+/// Every call on two sheets; the texts of what differs.
+fn compare_pair(tally: &mut Tally, dice: &mut Dice, first: &[u8], second: &[u8]) -> Vec<String> {
+    let mut differences = Vec::new();
+    let (one, two) = (lent_sheet(dice, first), lent_sheet(dice, second));
+    let before = (one.whole.clone(), two.whole.clone());
+    let (first, second) = (one.read(), two.read());
+    let same = plain::same_work(first, second);
+    let leaner = plain::leaner(first, second);
+
+    let work = same.map(u64::from);
+    let which = leaner.map(|(which, _)| which as u64);
+    type Call = unsafe extern "C" fn(&[u8], &[u8], &mut [u64]) -> u64;
+    let calls: [(&str, Call, Result<u64, plain::PairRefusal>); 2] = [
+        ("same work", oatmist_same_work, work),
+        ("winner", oatmist_winner, which),
+    ];
+    for (name, call, asked) in calls {
+        let (number, values) = match asked {
+            Ok(value) => (0, [value, 0]),
+            Err(refusal) => (refusal.number, [refusal.index, refusal.which].map(|x| x as u64)),
+        };
+        let mut answer = lent_answer(dice, 2);
+        let expected = answer.after(&values);
+        let told = unsafe { call(first, second, answer.part()) };
+        note(
+            tally,
+            &mut differences,
+            told == number && answer.whole == expected,
+            || format!("{name}: {told} {:?}, not {number} {values:?}", answer.part()),
+        );
     }
+
+    // The part is the very bytes of a sheet; that of a refused pair is empty, at a place of either.
+    let elsewhere = dice.bytes(3);
+    let mut part: &[u8] = &elsewhere;
+    unsafe { oatmist_leaner(first, second, &mut part) };
+    let there = match leaner {
+        Ok((_, section)) => part.as_ptr_range() == section.as_ptr_range(),
+        Err(_) => {
+            let of = |sheet: &[u8]| {
+                let range = sheet.as_ptr_range();
+                range.start <= part.as_ptr() && part.as_ptr() <= range.end
+            };
+            part.is_empty() && (of(first) || of(second))
+        }
+    };
+    note(tally, &mut differences, there, || {
+        format!("leaner: {} bytes, not the part of {leaner:?}", part.len())
+    });
+
+    if let Ok(related) = same {
+        let (one, two) = (restated_by_library(first), restated_by_library(second));
+        let right = one.is_ok() && two.is_ok() && (one == two) == related;
+        note(tally, &mut differences, right, || {
+            format!("related: {related}, restated otherwise")
+        });
+    }
+    note(tally, &mut differences, (one.whole, two.whole) == before, || {
+        "a sheet itself changed".into()
+    });
+    differences
 }
 
-/// Restated bytes are equal exactly when two sheets over the same tables are related.
-fn compare_pair(tally: &mut Tally, dice: &mut Dice, first: &[u8], second: &[u8]) {
-    let Ok(related) = plain::same_work(first, second) else {
-        return;
-    };
-    let one = restated_by_library(dice, first);
-    let two = restated_by_library(dice, second);
-    tally.check(one.is_ok() && two.is_ok() && (one == two) == related, || {
-        format!(
-            "related: {related}, restated otherwise:\n{}\n{}",
-            hex(first),
-            hex(second)
-        )
-    });
+/// The restated bytes by the library, or the refusal's number.
+fn restated_by_library(sheet: &[u8]) -> Result<Vec<u8>, u64> {
+    let mut out = vec![0xee; 16_650];
+    let mut answer = [0];
+    match unsafe { oatmist_restate(sheet, &mut out, &mut answer) } {
+        0 => {
+            out.truncate(answer[0] as usize);
+            Ok(out)
+        }
+        number => Err(number),
+    }
 }
 
 // ---------------------------------------------------------------------------------------------
 // What was seen
 
-/// How many sheets of each class there were, in the order in which they are printed.
+/// How many sheets and pairs of each class there were, in the order in which they are printed.
 struct Classes(Vec<(String, u64)>);
 
 /// Ranges of a size, from and to. Each printed limit is a range of its own.
@@ -342,6 +479,23 @@ fn refusal_name(number: u64) -> String {
     format!("refused by {number}")
 }
 
+const STUCK: [&str; 2] = ["accepted, not stuck", "accepted, stuck"];
+const PAIRS: &[&str] = &[
+    "pair, related, of different steps",
+    "pair, related, of the same steps",
+    "pair, unrelated, of the same actions",
+    "pair, unrelated, of other actions",
+    "pair, first leaner",
+    "pair, second leaner",
+    "pair, neither leaner",
+    "pair, leaner sheet without steps",
+    "pair, refused by 14",
+    "pair, only the first refused",
+    "pair, only the second refused",
+    "pair, both refused",
+    "pair, first refused at a later step",
+    "pair, second refused at a later step",
+];
 const FORMED: [&str; 2] = ["accepted, in normal form", "accepted, not in normal form"];
 const STEP: [&str; 2] = [
     "refused by 10, 11 or 12 at step 0",
@@ -398,6 +552,8 @@ impl Classes {
             names.extend(ranges.iter().map(|&range| range_name(name, range)));
         }
         names.extend(FORMED.map(String::from));
+        names.extend(STUCK.map(String::from));
+        names.extend(PAIRS.iter().map(|name| name.to_string()));
         Classes(names.into_iter().map(|name| (name, 0)).collect())
     }
 
@@ -436,6 +592,53 @@ impl Classes {
             }
         }
         self.add(FORMED[if sheet.process().is_none() { 0 } else { 1 }]);
+        self.add(STUCK[usize::from(sheet.stuck())]);
+    }
+
+    /// What a pair is, by the second implementation.
+    fn count_pair(&mut self, first: &[u8], second: &[u8]) {
+        let (one, two) = (plain::verdict(first), plain::verdict(second));
+        match (&one, &two) {
+            (Err((_, index)), other) => {
+                let both = other.is_err();
+                self.add(if both { "pair, both refused" } else { "pair, only the first refused" });
+                if *index > 0 {
+                    self.add("pair, first refused at a later step");
+                }
+            }
+            (Ok(_), Err((_, index))) => {
+                self.add("pair, only the second refused");
+                if *index > 0 {
+                    self.add("pair, second refused at a later step");
+                }
+            }
+            (Ok(one), Ok(two)) => self.count_sound(first, second, one, two),
+        }
+    }
+
+    /// Two accepted sheets.
+    fn count_sound(&mut self, first: &[u8], second: &[u8], one: &plain::Sheet, two: &plain::Sheet) {
+        let Ok(related) = plain::same_work(first, second) else {
+            return self.add("pair, refused by 14");
+        };
+        let (mut a, mut b) = (plain::flat(&one.steps), plain::flat(&two.steps));
+        a.sort();
+        b.sort();
+        self.add(match (related, one.steps == two.steps, a == b) {
+            (true, false, _) => "pair, related, of different steps",
+            (true, true, _) => "pair, related, of the same steps",
+            (false, _, true) => "pair, unrelated, of the same actions",
+            (false, _, false) => "pair, unrelated, of other actions",
+        });
+        let (k, l) = (one.restated_steps().len(), two.restated_steps().len());
+        self.add(match k.cmp(&l) {
+            std::cmp::Ordering::Less => "pair, first leaner",
+            std::cmp::Ordering::Greater => "pair, second leaner",
+            std::cmp::Ordering::Equal => "pair, neither leaner",
+        });
+        if k.min(l) == 0 {
+            self.add("pair, leaner sheet without steps");
+        }
     }
 
     fn count_refused(&mut self, bytes: &[u8], number: u64, index: usize) {
@@ -454,7 +657,7 @@ impl Classes {
         for (name, count) in &self.0 {
             println!("  {count:6}  {name}");
             tally.check(*count >= least, || {
-                format!("{count} sheets, fewer than {least}: {name}")
+                format!("{count} seen, fewer than {least}: {name}")
             });
         }
     }

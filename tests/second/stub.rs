@@ -182,3 +182,134 @@ pub extern "C" fn oatmist_restate(sheet: &[u8], out: &mut [u8], answer: &mut [u6
     fill(&[restated.len() as u64], answer);
     0
 }
+
+#[no_mangle]
+pub extern "C" fn oatmist_figure(sheet: &[u8], answer: &mut [u64]) -> u64 {
+    match verdict(sheet) {
+        Ok(sheet) => {
+            let actions = plain::flat(&sheet.steps).len() as u64;
+            let value = match (sheet.restated_steps().len(), sheet.steps.len()) {
+                (steps, _) if bug("figure-rounded-down") && steps > 0 => 10 * actions / steps as u64,
+                (_, steps) if bug("figure-of-steps-as-given") && steps > 0 => {
+                    (20 * actions / steps as u64 + 1) / 2
+                }
+                _ => sheet.figure(),
+            };
+            fill(&[value], answer);
+            0
+        }
+        Err((number, index)) => {
+            fill(&[index], answer);
+            number
+        }
+    }
+}
+
+#[no_mangle]
+pub extern "C" fn oatmist_stuck(sheet: &[u8], answer: &mut [u64]) -> u64 {
+    match verdict(sheet) {
+        Ok(mut sheet) => {
+            if bug("stuck-at-start") {
+                sheet.ends = plain::start(&sheet.components);
+            }
+            fill(&[u64::from(sheet.stuck())], answer);
+            0
+        }
+        Err((number, index)) => {
+            fill(&[index], answer);
+            number
+        }
+    }
+}
+
+#[no_mangle]
+pub extern "C" fn oatmist_report(sheet: &[u8], out: &mut [u8], answer: &mut [u64]) -> u64 {
+    let mut text = plain::report(sheet);
+    if bug("report-without-last-feed") {
+        text.pop();
+    }
+    let spare = if bug("report-needs-spare") { 1 } else { 0 };
+    if out.len() < text.len() + spare {
+        if bug("report-cut-short") {
+            let length = out.len();
+            out.copy_from_slice(&text.as_bytes()[..length]);
+        }
+        fill(&[0], answer);
+        return 1;
+    }
+    out[..text.len()].copy_from_slice(text.as_bytes());
+    if bug("report-ends-in-zero") && out.len() > text.len() {
+        out[text.len()] = 0;
+    }
+    fill(&[text.len() as u64], answer);
+    0
+}
+
+/// The refusal of a pair into the answer.
+fn fill_refusal(refusal: plain::PairRefusal, answer: &mut [u64]) -> u64 {
+    let mut which = refusal.which as u64;
+    if bug("second-told-as-first") {
+        which = 0;
+    }
+    fill(&[refusal.index as u64, which], answer);
+    refusal.number
+}
+
+/// The flat list of a sheet, or as the bug has it only its actions.
+fn work(sheet: &[u8]) -> Vec<usize> {
+    let mut list = plain::flat(&plain::verdict(sheet).unwrap().steps);
+    list.sort();
+    list
+}
+
+#[no_mangle]
+pub extern "C" fn oatmist_same_work(first: &[u8], second: &[u8], answer: &mut [u64]) -> u64 {
+    let (mut one, mut two) = (first, second);
+    if bug("second-refused-first") && plain::verdict(second).is_err() {
+        (one, two) = (second, first);
+    }
+    match plain::same_work(one, two) {
+        Ok(mut same) => {
+            if bug("work-of-same-actions") {
+                same = work(first) == work(second);
+            }
+            if bug("work-of-same-bytes") {
+                same = first == second;
+            }
+            fill(&[u64::from(same), 0], answer);
+            0
+        }
+        Err(refusal) => fill_refusal(refusal, answer),
+    }
+}
+
+#[no_mangle]
+pub extern "C" fn oatmist_winner(first: &[u8], second: &[u8], answer: &mut [u64]) -> u64 {
+    match plain::leaner(first, second) {
+        Ok((which, _)) => {
+            let swapped = plain::leaner(second, first).unwrap().0;
+            let tie = swapped == which;
+            fill(&[if bug("tie-to-second") && tie { 1 } else { which as u64 }, 0], answer);
+            0
+        }
+        Err(refusal) => fill_refusal(refusal, answer),
+    }
+}
+
+#[no_mangle]
+pub extern "C" fn oatmist_leaner<'a>(first: &'a [u8], second: &'a [u8], part: &mut &'a [u8]) {
+    match plain::leaner(first, second) {
+        Ok((which, section)) => {
+            *part = section;
+            if bug("part-with-trailer") {
+                let sheet = [first, second][which];
+                *part = &sheet[sheet.len() - 10 - section.len()..];
+            }
+            if bug("part-of-copy") {
+                *part = section.to_vec().leak();
+            }
+        }
+        Err(_) if bug("part-kept") => {}
+        Err(_) => *part = &first[..0],
+    }
+}

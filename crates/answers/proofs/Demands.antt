@@ -12,7 +12,7 @@ use Rattle.systems.specs.Lts.{IsLts}
 use Rattle.systems.specs.Interleaving.{Global, Reaches}
 use Rattle.systems.specs.StepExecution.{Determinized, StepExecution, Linearization, Picked}
 use Rattle.systems.specs.ProcessExecution.{ProcessCondition, ProcessExecution}
-use Rattle.systems.specs.Tables.{Tables, ltsOf, systemOf}
+use Rattle.systems.specs.Tables.{ltsOf, systemOf}
 use Rattle.systems.specs.Independence.{dependent}
 use Rattle.systems.specs.Running.{start}
 use Rattle.systems.specs.Checking.{flat, actionsOf}
@@ -29,7 +29,6 @@ use Rattle.sheet.proofs.Verdicts.{verdict-first, verdict-only, accepted-exact}
 use Rattle.answers.specs.Answers.{given, after}
 use Rattle.answers.specs.EndSets.{endSet, endSets}
 use Rattle.answers.specs.Restated.{restated}
-use Rattle.answers.specs.Related.{RelatedSheets}
 use Rattle.traces.specs.Offences.{firstOffence}
 use Rattle.answers.specs.ProcessCheck.{processCheck}
 use Rattle.answers.specs.Demands.{Demand1, Demand2, Demand3, Answers}

@@ -6,7 +6,7 @@ use mathlib.Core.Option.{none}
 use Prim.Native.Nat.{ℕ, _+_, _*_, _<_, _≤_}
 use native.Mathlib.Omega.{arith}
 use lib.ListN.{length}
-use Rattle.systems.specs.Tables.{Tables, InOrder}
+use Rattle.systems.specs.Tables.{InOrder}
 use Rattle.systems.specs.Running.{start}
 use Rattle.systems.specs.Checking.{firstFault}
 use Rattle.sheet.specs.Numbers.{AreBytes}

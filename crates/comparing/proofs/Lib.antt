@@ -1,5 +1,2 @@
-pub mod Sameness
-pub mod PackedSheets
-pub mod PairRefusals
 pub mod PairCalls
 pub mod Demands

@@ -17,12 +17,14 @@ use Rattle.answers.specs.Leaner.{winner, stepSection, leaner}
 use Rattle.answers.proofs.Restated.{accepted-limits}
 use Rattle.answers.proofs.PairAnswers.{pair-given}
 use Rattle.answers.proofs.Leaner.{leaner-first, leaner-second, leaner-refused}
-use Rattle.comparing.specs.declared.Pair.{Pair}
-use Rattle.comparing.specs.declared.Pair.the-variants.{Refused as pairRefused}
+use Rattle.pairs.specs.declared.Pair.{Pair}
+use Rattle.pairs.specs.declared.Pair.the-variants.{Refused as pairRefused}
 use Rattle.comparing.specs.declared.Work.{Work}
 use Rattle.comparing.specs.declared.Lean.{Lean}
-use Rattle.comparing.specs.Pairing.{Tables, sizesOf, pairOf, workOf, notWork, leanOf, notLean}
-use Rattle.comparing.proofs.PairRefusals.{SoundPair, refused-alike}
+use Rattle.restating.specs.Known.{Known}
+use Rattle.pairs.specs.Judging.{sizesOf, pairOf}
+use Rattle.comparing.specs.Pairing.{workOf, notWork, leanOf, notLean}
+use Rattle.pairs.proofs.PairRefusals.{SoundPair, refused-alike}
 
 pair-gives : {A : Type 0} (b c : List ℕ) (n s : ℕ) → SoundPair b c n s → (x y : A) → y ≡ x → given y ≡ ofPair b c x
 pair-gives b c n s p x y e = sym (pair-given b c x y .1 (p .first-read .sheet-accepted, p .second-read .sheet-accepted, p .same-tables, sym e))
@@ -61,7 +63,7 @@ module _ (b c : List ℕ) where
     no-section k i sheet told e =
         sym (leaner-refused b c k i sheet (sym (winner-refused (sizesOf b) k i sheet (ap pairOf (sym e) ∙ told))))
 
-section-part : (b : List ℕ) (n s : ℕ) → Tables b n s → take (length b - 10 - s) (drop s b) ≡ stepSection b
+section-part : (b : List ℕ) (n s : ℕ) → Known b n s → take (length b - 10 - s) (drop s b) ≡ stepSection b
 unfolding stepSection
 section-part b n s t =
     let whole = sections-length b (accepted-limits b (t .sheet-accepted)) in
@@ -76,5 +78,5 @@ module _ (b c : List ℕ) (n s : ℕ) (p : SoundPair b c n s) where
   pub section-second : true ≡ fewer b c → take (length c - 10 - s) (drop s c) ≡ leaner b c
   section-second e = section-part c n s (p .second-read) ∙ sym (leaner-second b c (sym (winner-told b c n s p true e)))
 
-pub sheet-long : (b : List ℕ) (n s : ℕ) → Tables b n s → (m : ℕ) × (length b ≡ s + 8 * m + 10)
+pub sheet-long : (b : List ℕ) (n s : ℕ) → Known b n s → (m : ℕ) × (length b ≡ s + 8 * m + 10)
 sheet-long b n s t = (stepCount b, let whole = sections-length b (accepted-limits b (t .sheet-accepted)) in let at = t .s-read in omega arith)

@@ -9,26 +9,24 @@ use Prim.Native.Nat.{ℕ, _<_, _≤_}
 use native.Mathlib.Omega.{arith}
 use lib.Dec.{ltb}
 use lib.ListN.{length, take, drop, getD}
-use Rattle.sets.specs.Lists.{below}
 use Rattle.sets.specs.Bits.{member, members}
 use Rattle.sets.proofs.Bools.{ltb-true}
 use Rattle.traces.specs.Offences.{firstOffence}
 use Rattle.systems.specs.Interleaving.{Global, Reaches}
-use Rattle.systems.specs.StepExecution.{Determinized, StepExecution, Linearization, Picked}
+use Rattle.systems.specs.StepExecution.{Linearization, Picked}
 use Rattle.systems.specs.Tables.{systemOf}
 use Rattle.systems.specs.Independence.{dependent}
 use Rattle.systems.specs.Checking.{actionsOf}
 use Rattle.sheet.specs.Numbers.{AreBytes}
 use Rattle.sheet.specs.Layout.{componentCount, actionCount, transitionsAt, stepsAt, tablesOf, tables, stepCount, steps}
-use Rattle.sheet.specs.Limits.{InLimits}
 use Rattle.sheet.specs.Verdict.{Verdict, accepted, refused, verdict, IsVerdict, Accepted}
 use Rattle.answers.specs.Answers.{Answer, given, after}
 use Rattle.answers.specs.EndSets.{endSet}
 use Rattle.answers.specs.Restated.{restated}
 use Rattle.answers.specs.Related.{SameTables, RelatedSheets}
-use Rattle.answers.specs.Restating.{tooShort, unlessShort, restating, outputAfter}
+use Rattle.answers.specs.Restating.{tooShort, unlessShort, restating}
 use Rattle.answers.specs.ProcessCheck.{processCheck}
-use Rattle.answers.proofs.Answers.{refused-first, refused-short, given-long, refused-kept, given-written, given-behind}
+use Rattle.answers.proofs.Answers.{given-long, refused-kept, given-written, given-behind}
 use Rattle.answers.proofs.Demands.{demand1, demand2, demand3, answers}
 use Rattle.reading.specs.declared.Reading.{Reading}
 use Rattle.reading.specs.Reading.{readingOf}
@@ -37,7 +35,7 @@ use Rattle.desk.specs.declared.Process.{Process}
 use Rattle.desk.specs.declared.Restated.{Restated}
 use Rattle.desk.specs.Calls.{CheckRight, EndSetsRight, endArrayBy, ProcessRight, processOf, RestateRight, restatedOf}
 use Rattle.desk.specs.Demands.{SaysAccepted, Wrote, Demand1, Demand2, Demand3}
-use Rattle.desk.proofs.Running.{map-below, map-below-at}
+use Rattle.desk.proofs.Arrays.{map-below, map-below-at}
 
 -- ---- the verdict behind an answer
 

@@ -1,6 +1,5 @@
-pub mod Running
+pub mod Arrays
 pub mod Marking
-pub mod Accepting
 pub mod ProcessAnswers
 pub mod RestatingAnswers
 pub mod Demands

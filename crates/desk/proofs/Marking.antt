@@ -1,36 +1,32 @@
 -- From what the reader and the run answer to the verdict and the end sets of the sheet.
 -- Assumes nothing.
 use mathlib.Core.Path.{_≡_, refl, sym, ap, ap₂, _∙_, subst}
-use mathlib.Core.Logic.{_⊎_, inl, inr}
 use mathlib.Core.Bool.{Bool, true, false, cond}
 use mathlib.Core.List.{List, map}
-use mathlib.Core.Option.{Option, none, some as just}
-use Prim.Native.Nat.{ℕ, _-_, _/_, _<_, _≤_}
+use Prim.Native.Nat.{ℕ, _-_, _/_, _≤_}
 use native.Mathlib.Omega.{arith}
 use lib.Dec.{ltb}
-use lib.ListN.{length, take, drop, getD, replicate, length-take}
+use lib.ListN.{length, take, drop, getD, replicate}
 use Rattle.sets.specs.Lists.{below}
-use Rattle.sets.proofs.Bools.{true-or-false, ltb-true}
+use Rattle.sets.proofs.Bools.{ltb-true}
 use Rattle.systems.specs.Tables.{Tables}
-use Rattle.systems.specs.Running.{start, fireAll}
-use Rattle.systems.specs.Checking.{firstFault, flat}
 use Rattle.sheet.specs.Numbers.{number, parts}
-use Rattle.sheet.specs.Layout.{transitionsAt, stepsAt, componentCount, actionCount, front, tablesOf, tables, steps}
+use Rattle.sheet.specs.Layout.{transitionsAt, stepsAt, componentCount, actionCount, tablesOf, tables, steps}
 use Rattle.sheet.specs.Limits.{InLimits}
 use Rattle.sheet.specs.Verdict.{Verdict, accepted, refused, ofFault, stepsVerdict, verdict}
 use Rattle.sheet.proofs.Limits.{limits-exact}
 use Rattle.sheet.proofs.Passing.{checked, Passing, stops, passes, verdict-checked, passing}
 use Rattle.sheet.proofs.RoundTrip.{section-steps}
-use Rattle.reading.specs.declared.Reading.{Reading}
 use Rattle.reading.specs.declared.Reading.the-variants.{Accepted as sound, Refused as turned}
 use Rattle.reading.specs.Reading.{readingOf}
 use Rattle.engine.specs.declared.Ran.{Ran}
-use Rattle.engine.specs.declared.Ran.the-variants.{Done, Faulty}
+use Rattle.engine.specs.declared.Ran.the-variants.{Done}
 use Rattle.engine.specs.Ran.{faultOf}
 use Rattle.answers.specs.EndSets.{endSet}
-use Rattle.desk.specs.Calls.{RunRight, keptOf, endArrayBy}
-use Rattle.moves.specs.Prepared.{Sound}
-use Rattle.desk.proofs.Running.{map-below, sound-front}
+use Rattle.running.specs.Runs.{RunRight}
+use Rattle.running.proofs.Running.{tables-told}
+use Rattle.desk.specs.Calls.{keptOf, endArrayBy}
+use Rattle.desk.proofs.Arrays.{map-below}
 
 -- what is known of a sheet that passed refusals 1 to 9, with the sizes that were read
 pub record Passed (b : List ℕ) (n m t s : ℕ) : Type 0 where
@@ -70,12 +66,6 @@ pub zeros-told : (b : List ℕ) (k i : ℕ) → verdict b ≡ refused k i → re
 zeros-told b k i e = ap (λ (v : Verdict). endArrayBy v b) (sym e)
 
 module _ (b : List ℕ) (n m t s : ℕ) (P : Passed b n m t s) where
-  same-tables : tablesOf (take s b) n m ≡ tables b
-  unfolding tables front
-  same-tables =
-      ap (λ (k : ℕ). tablesOf (take k b) n m) (P .s-read)
-      ∙ ap₂ (λ (x y : ℕ). tablesOf (take (stepsAt b) b) x y) (P .n-read) (P .m-read)
-
   same-steps : map number (parts 8 (length (take (length b - 10 - s) (drop s b)) / 8) (take (length b - 10 - s) (drop s b))) ≡ steps b
   same-steps = section-steps b _ (P .limits) (ap (λ (k : ℕ). take (length b - 10 - k) (drop k b)) (P .s-read))
 
@@ -87,7 +77,7 @@ module _ (b : List ℕ) (n m t s : ℕ) (P : Passed b n m t s) where
   run-sheet r held h =
       subst (λ (xs : List ℕ). RunRight (tables b) xs r held) same-steps
       (subst (λ (T : Tables). RunRight T
-      (map number (parts 8 (length (take (length b - 10 - s) (drop s b)) / 8) (take (length b - 10 - s) (drop s b)))) r held) same-tables h)
+      (map number (parts 8 (length (take (length b - 10 - s) (drop s b)) / 8) (take (length b - 10 - s) (drop s b)))) r held) (tables-told b n m s (P .n-read) (P .m-read) (P .s-read)) h)
 
   pub run-verdict : (r : Ran) (held : List ℕ) → RunRight (tables b) (steps b) r held → verdict b ≡ ofFault (faultOf r)
   unfolding stepsVerdict
@@ -111,16 +101,3 @@ module _ (b : List ℕ) (n m t s : ℕ) (P : Passed b n m t s) where
   -- what the parts handed on must meet
   pub steps-end : s ≤ length b - 10
   steps-end = let r = P .s-read in let k = P .limits .trailer-last .2 in omega arith
-
-  pub passed-sound : Sound (take s b) n m
-  unfolding front
-  passed-sound =
-      rw (P .s-read, P .n-read, P .m-read) (sound-front b (P .limits))
-
-  pub section-short : length (take (length b - 10 - s) (drop s b)) ≤ 8192
-  section-short =
-      let k = P .limits .trailer-last in
-      let few = k .1 in
-      let whole = k .2 in
-      let r = P .s-read in
-      rw length-take (omega arith)

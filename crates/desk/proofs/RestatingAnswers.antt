@@ -1,35 +1,28 @@
 -- Restating's answer and the output afterwards: the sheet's own refusal, else 13, else the packed steps written as the restated sheet.
 -- Assumes nothing.
 use mathlib.Core.Path.{_≡_, refl, sym, ap, ap₂, _∙_}
-use mathlib.Core.Bool.{Bool}
-use mathlib.Core.List.{List, map}
-use Prim.Native.Nat.{ℕ, _+_, _-_, _*_, _≤_, _<_}
+use mathlib.Core.List.{List}
+use Prim.Native.Nat.{ℕ, _+_, _*_, _≤_, _<_}
 use native.Mathlib.Omega.{arith}
-use lib.ListN.{length, take, drop, replicate, length-map}
-use lib.Seq.{take-append-seam}
-use Rattle.sets.specs.Bits.{setOf}
-use Rattle.traces.specs.Foata.{foata}
-use Rattle.systems.specs.Checking.{flat}
-use Rattle.systems.specs.Independence.{dependentBy}
-use Rattle.sheet.specs.Layout.{front, alphabetOf}
-use Rattle.sheet.specs.Sections.{Alphabets}
+use lib.ListN.{length, take}
+use Rattle.sheet.specs.Layout.{front}
 use Rattle.sheet.specs.Writing.{sheetOf}
 use Rattle.sheet.specs.Verdict.{verdict}
 use Rattle.sheet.proofs.RoundTrip.{front-length}
 use Rattle.reading.specs.declared.Reading.{Reading}
 use Rattle.reading.specs.declared.Reading.the-variants.{Refused as turned}
 use Rattle.reading.specs.Reading.{readingOf}
-use Rattle.packing.specs.Levels.{Packed}
 use Rattle.writing.specs.Sections.{over}
 use Rattle.answers.specs.Answers.{Answer}
-use Rattle.answers.specs.Restated.{restatedSteps, restated}
+use Rattle.answers.specs.Restated.{restated}
 use Rattle.answers.specs.Restating.{restating}
-use Rattle.answers.proofs.Restated.{accepted-limits, restated-normal, restated-reads}
+use Rattle.answers.proofs.Restated.{accepted-limits, restated-reads}
 use Rattle.answers.proofs.Answers.{refused-first, refused-short, given-long, refused-kept, given-output}
 use Rattle.desk.specs.declared.Restated.{Restated}
 use Rattle.desk.specs.declared.Restated.the-variants.{Written, Refused as restatedRefused}
 use Rattle.desk.specs.Calls.{restatedOf, notRestated, RestateRight}
-use Rattle.desk.proofs.Accepting.{Admitted, turned-refused, readSteps, section-told, dependence-told}
+use Rattle.restating.specs.Known.{Admitted, PackedSteps}
+use Rattle.restating.proofs.Accepting.{turned-refused}
 
 -- a refused call leaves the output as it came
 refused-right : (b out : List ℕ) (r : Restated) (k i : ℕ) → restatedOf r ≡ Answer.refused k i
@@ -41,33 +34,17 @@ pub restate-refused : (b out : List ℕ) (read : Reading) (r : Restated) (k i : 
 restate-refused b out read r k i told e f =
     refused-right b out r k i (ap restatedOf (f ∙ ap notRestated e)) (refused-first b (length out) k i (turned-refused b k i (sym e ∙ told)))
 
-module _ (b : List ℕ) (n m t s : ℕ) (r : Admitted b n m t s) (l : List ℕ) (a : Alphabets (alphabetOf (take (t - 0) (drop 0 b))) n l)
-    (packed : List ℕ) (count : ℕ) (p : Packed l n (flat (readSteps b s)) packed count) where
-  -- the normal form by the alphabets read, of the actions read
-  abbrev placed : List (List ℕ)
-  placed = foata (dependentBy l n) (flat (readSteps b s))
-
-  pub placed-told : map setOf placed ≡ restatedSteps b
-  placed-told =
-      ap₂ (λ (dep : ℕ → ℕ → Bool) (xs : List ℕ). map setOf (foata dep (flat xs))) (dependence-told b n m t s r l a) (section-told b n m t s r)
-      ∙ sym (restated-normal b)
-
-  pub count-sets : count ≡ length (map setOf placed)
-  count-sets = p .counted ∙ sym (length-map placed setOf)
-
-  pub taken-told : take count packed ≡ restatedSteps b
-  taken-told = ap₂ take count-sets (p .packed-sets) ∙ take-append-seam (map setOf placed) (replicate (1024 - count) 0) ∙ placed-told
-
+module _ (b : List ℕ) (n m t s : ℕ) (r : Admitted b n m t s) (packed : List ℕ) (count : ℕ) (p : PackedSteps b packed count) where
   sheet-told : sheetOf (take s b) n m (take count packed) ≡ restated b
   unfolding restated front
-  sheet-told = ap₂ (λ (x : ℕ) (xs : List ℕ). sheetOf (take x b) n m xs) (r .s-read) taken-told ∙ rw (r .n-read, r .m-read)
+  sheet-told = ap₂ (λ (x : ℕ) (xs : List ℕ). sheetOf (take x b) n m xs) (r .s-read) (p .sets) ∙ rw (r .n-read, r .m-read)
 
   size-told : s + 8 * count + 10 ≡ length (restated b)
   unfolding restated
   size-told =
       let total = restated-reads b (r .sheet-accepted) .total in
       let before = front-length b (accepted-limits b (r .sheet-accepted)) in
-      let e = count-sets ∙ ap length placed-told in
+      let e = p .counted in
       omega arith
 
   pub restate-short : (out : List ℕ) → length out < s + 8 * count + 10 → RestateRight b out (restatedRefused 13 0) out

@@ -4,13 +4,10 @@ use mathlib.Core.Path.{_≡_}
 use mathlib.Core.Bool.{cond}
 use mathlib.Core.List.{List, map}
 use mathlib.Core.Option.{Option, none, some as just}
-use Prim.Native.Nat.{ℕ, _<_}
+use Prim.Native.Nat.{ℕ}
 use lib.Dec.{ltb}
 use lib.ListN.{length, getD, replicate}
 use Rattle.sets.specs.Lists.{below}
-use Rattle.systems.specs.Tables.{Tables}
-use Rattle.systems.specs.Running.{start, fireAll}
-use Rattle.systems.specs.Checking.{firstFault, flat}
 use Rattle.sheet.specs.Layout.{componentCount}
 use Rattle.sheet.specs.Verdict.{Verdict, accepted, refused, verdict}
 use Rattle.reading.specs.declared.Reading.{Reading}
@@ -18,7 +15,6 @@ use Rattle.reading.specs.declared.Reading.the-variants.{Accepted as readAccepte
 use Rattle.reading.specs.Reading.{readingOf}
 use Rattle.engine.specs.declared.Ran.{Ran}
 use Rattle.engine.specs.declared.Ran.the-variants.{Done, Faulty}
-use Rattle.engine.specs.Ran.{faultOf}
 use Rattle.desk.specs.declared.EndSets.{EndSets}
 use Rattle.desk.specs.declared.Process.{Process}
 use Rattle.desk.specs.declared.Process.the-variants.{Yes, Offends, Refused as processRefused}
@@ -28,12 +24,6 @@ use Rattle.answers.specs.Answers.{Answer}
 use Rattle.answers.specs.EndSets.{endSet}
 use Rattle.answers.specs.ProcessCheck.{processCheck}
 use Rattle.answers.specs.Restating.{restating, outputAfter}
-
--- a run over the steps xs from the start: the first fault, and without one the sets after the last step
-pub record RunRight (T : Tables) (xs : List ℕ) (r : Ran) (held : List ℕ) : Type 0 where
-  pub size : length held ≡ 16
-  pub answer : faultOf r ≡ firstFault T (start T) 0 xs
-  pub ends : r ≡ Done → (j : ℕ) → j < T .components → getD held j 0 ≡ fireAll T (start T) (flat xs) j
 
 -- the set with index j of a list where j is below n, else the empty set
 abbrev pub keptOf : List ℕ → ℕ → ℕ → ℕ

@@ -12,7 +12,6 @@ use lib.ListN.{length, take, drop, getD}
 use Rattle.sets.specs.Bits.{member}
 use Rattle.systems.specs.Interleaving.{Global, Reaches}
 use Rattle.systems.specs.StepExecution.{Determinized, StepExecution, Linearization, Picked}
-use Rattle.systems.specs.ProcessExecution.{ProcessExecution}
 use Rattle.systems.specs.Tables.{systemOf}
 use Rattle.systems.specs.Checking.{actionsOf}
 use Rattle.sheet.specs.Numbers.{AreBytes}

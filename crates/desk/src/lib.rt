@@ -2,13 +2,10 @@
 // of specs/.
 ghost use mathlib.Core.Path.{_≡_};
 ghost use mathlib.Core.List.{map};
-ghost use Prim.Native.Nat.{_/_, _≤_};
+ghost use Prim.Native.Nat.{_≤_};
 ghost use lib.ListN.{length};
 ghost use Rattle.sets.specs.Lists.{below};
-ghost use Rattle.sheet.specs.Numbers.{number, parts};
-ghost use Rattle.sheet.specs.Layout.{tablesOf};
-ghost use Rattle.moves.specs.Prepared.{Sound};
-ghost use Rattle.desk.specs.Calls.{RunRight, keptOf, refusalOf, notProcess, notRestated, CheckRight, EndSetsRight, ProcessRight, RestateRight};
+ghost use Rattle.desk.specs.Calls.{keptOf, refusalOf, notProcess, notRestated, CheckRight, EndSetsRight, ProcessRight, RestateRight};
 use engine::Ran;
 use offences::Offence;
 use reading::Reading;
@@ -30,35 +27,6 @@ pub enum Process {
 pub enum Restated {
     Written(usize),
     Refused { number: u64, index: usize },
-}
-
-// A run over the steps, and the sets that it left.
-struct Run {
-    ran: Ran,
-    held: [u64; 16],
-}
-
-// Runs the steps of a section from the start of the tables that stand in the bytes before them.
-fn run_from_start(front: &[u8], section: &[u8], n: usize, m: usize) -> Run
-    requires { ⌜ Sound (now front) n m × (length (now section) ≤ 8192) ⌝ }
-    ensures { λ r. ⌜ RunRight (tablesOf (now (front .entry)) n m)
-        (map number (parts 8 (length (now (section .entry)) / 8) (now (section .entry)))) (r .ran) (r .held) ⌝ }
-{
-    let alphabets = reading::alphabets(front, n);
-    let index = moves::index_states(front, n, m);
-    let closures = moves::close_states(front, n, m, &index);
-    let mut held = moves::start_sets(front, n, m, &closures);
-    let ran = engine::run_steps(
-        section,
-        front,
-        n,
-        m,
-        &index,
-        &closures,
-        &alphabets,
-        &mut held,
-    );
-    Run { ran, held }
 }
 
 // The set with index j where j is below n, else the empty set.
@@ -90,13 +58,13 @@ fn first_sets(held: &[u64], n: usize) -> [u64; 16]
 fn refusal(ran: Ran) -> Reading
     ensures { λ r. ⌜ r ≡ refusalOf ran ⌝ }
 {
-    match ran {
-        Ran::Done => Reading::Refused {
+    let Ran::Faulty { number, index } = ran else {
+        return Reading::Refused {
             number: 0,
             index: 0,
-        },
-        Ran::Faulty { number, index } => Reading::Refused { number, index },
-    }
+        };
+    };
+    Reading::Refused { number, index }
 }
 
 // The end sets of a sheet: where each component may be after the last step.
@@ -111,7 +79,7 @@ pub fn end_sets(sheet: &[u8]) -> EndSets
         };
     };
     let end = sheet.len() - 10;
-    let made = run_from_start(&sheet[..s], &sheet[s..end], n, m);
+    let made = running::run_from_start(&sheet[..s], &sheet[s..end], n, m);
     let ran = made.ran;
     let Ran::Done = ran else {
         return EndSets {
@@ -138,15 +106,10 @@ pub fn check(sheet: &[u8]) -> Reading
 fn not_process(read: Reading) -> Process
     ensures { λ r. ⌜ r ≡ notProcess read ⌝ }
 {
-    match read {
-        Reading::Accepted {
-            n: _,
-            m: _,
-            t: _,
-            s: _,
-        } => Process::Yes,
-        Reading::Refused { number, index } => Process::Refused { number, index },
-    }
+    let Reading::Refused { number, index } = read else {
+        return Process::Yes;
+    };
+    Process::Refused { number, index }
 }
 
 // Whether the execution is a process execution; else the index of the first step that offends.
@@ -170,15 +133,10 @@ pub fn process_check(sheet: &[u8]) -> Process
 fn not_restated(read: Reading) -> Restated
     ensures { λ r. ⌜ r ≡ notRestated read ⌝ }
 {
-    match read {
-        Reading::Accepted {
-            n: _,
-            m: _,
-            t: _,
-            s: _,
-        } => Restated::Written(0),
-        Reading::Refused { number, index } => Restated::Refused { number, index },
-    }
+    let Reading::Refused { number, index } = read else {
+        return Restated::Written(0);
+    };
+    Restated::Refused { number, index }
 }
 
 // Restates a sheet in normal form into the output: 13 only for an accepted sheet whose restated bytes do not fit. A refused call
@@ -190,10 +148,8 @@ pub fn restate(sheet: &[u8], out: &mut [u8]) -> Restated
     let Reading::Accepted { n, m, t, s } = read else {
         return not_restated(read);
     };
-    let end = sheet.len() - 10;
-    let alphabets = reading::alphabets(&sheet[0..t], n);
     let mut packed = [0u64; 1024];
-    let count = packing::pack(&sheet[s..end], &alphabets, n, &mut packed);
+    let count = restating::pack_sheet(sheet, n, s, &mut packed);
     let size = s + 8 * count + 10;
     if out.len() < size {
         return Restated::Refused {

@@ -58,8 +58,8 @@ pub fn first_offence(section: &[u8], alphabets: &[u64], n: usize) -> Offence
     let count = section.len() / 8;
     let mut k = 1;
     while k < count {
-        let before = sheet::step_at(section, k - 1);
-        if !follows_step(alphabets, n, before, sheet::step_at(section, k)) {
+        let before = numbers::step_at(section, k - 1);
+        if !follows_step(alphabets, n, before, numbers::step_at(section, k)) {
             return Offence::At(k);
         }
         k += 1;

@@ -1,23 +1,30 @@
--- Dependence by the alphabets of a list, and the level of an action as the largest entry over its components:
+-- Dependence by owners, and the level of an action as the largest entry over its components:
 -- that is one past the last step that has an action it depends on.
 -- Assumes nothing.
 use mathlib.Core.Path.{_≡_, refl, sym, ap, ap₂, _∙_, fun-ext}
-use mathlib.Core.Logic.{_⊎_, inl, inr}
-use mathlib.Core.Bool.{Bool, true, false, _&&_, _||_}
+use mathlib.Core.Logic.{_↔_, _≢_, _⊎_, inl, inr}
+use mathlib.Core.Bool.{Bool, true, false}
 use mathlib.Core.List.{List, [], _∷_, List·Memᴰ, List·Memᴰ·head, List·Memᴰ·tail}
-use Prim.Native.Nat.{ℕ, zero, suc, _≤_, _<_}
+use Prim.Native.Nat.{ℕ, _^_, _≤_, _<_, max}
+use native.Mathlib.Nat.{lt-of-lt-of-le}
 use native.Mathlib.Omega.{arith}
+use lib.Dec.{eqb}
 use lib.ListN.{getD}
-use Rattle.sets.specs.Lists.{some, upward, below}
-use Rattle.sets.specs.Bits.{member}
-use Rattle.sets.proofs.Bools.{iff-bool}
-use Rattle.sets.proofs.Lists.{some-elim, none-false, mem-below}
+use lib.Pow.{pow-mono}
+use Rattle.sets.specs.Lists.{some, below}
+use Rattle.sets.specs.Bits.{member, members}
+use Rattle.sets.proofs.Bools.{iff-bool, or-true, eqb-true}
+use Rattle.sets.proofs.Lists.{some-intro, some-elim, none-false, mem-below}
+use Rattle.sets.proofs.Members.{members-mem, member-some, member-lt}
+use Rattle.traces.specs.Words.{Dependence}
 use Rattle.traces.specs.Foata.{further, reach}
 use Rattle.traces.proofs.Reach.{reach-or}
 use Rattle.systems.specs.Tables.{Tables}
-use Rattle.systems.specs.Independence.{shares, dependent}
-use Rattle.systems.proofs.Dependence.{Shared, Known, shares-exact, dependent-cases, dependent-shares}
-use Rattle.packing.specs.Levels.{alphabetTables, dependentBy, largerIf, levelOver, levelOf}
+use Rattle.systems.specs.Independence.{dependent}
+use Rattle.systems.proofs.Dependence.{Shared, dependent-cases}
+use Rattle.owners.specs.Owners.{Owners}
+use Rattle.owners.proofs.Entering.{owners-action, owners-lt, owners-known}
+use Rattle.packing.specs.Levels.{alphabetTables, dependentBy, AllKnown, owns, dependentOn, OfSixteen, AllOwned, largest}
 
 -- tables whose alphabets stand in the list
 pub dependentBy-tables : (T : Tables) (l : List ℕ) → ((j : ℕ) → j < T .components → getD l j 0 ≡ T .alphabet j)
@@ -42,76 +49,118 @@ dependentBy-tables T l same = fun-ext (λ a. fun-ext (λ b. iff-bool (dependent 
         let e = same (s .0) (s .1) in
         inr (s .0, s .1, ap (λ (x : ℕ). member x a) e ∙ s .2, ap (λ (x : ℕ). member x b) e ∙ s .3)
 
+-- ---- dependence by owners
+
+-- a component that both actions have
+abbrev Common : List ℕ → ℕ → ℕ → Type 0
+Common o a b = (j : ℕ) × (j < 64) × (owns o j a ≡ true) × (owns o j b ≡ true)
+
+module _ (o : List ℕ) where
+  common-exact : (a b : ℕ) → (some (λ j. owns o j b) (members (getD o a 0)) ≡ true) ↔ Common o a b
+  common-exact a b = (there, λ s. some-intro (λ j. owns o j b) (members (getD o a 0)) (members-mem (getD o a 0) (s .0) .1 (s .1, s .2)) (s .3))
+    where
+      there : some (λ j. owns o j b) (members (getD o a 0)) ≡ true → Common o a b
+      there h =
+          let r = some-elim (λ j. owns o j b) (members (getD o a 0)) h in
+          let m = members-mem (getD o a 0) (r .0) .0 (r .1) in
+          (r .0, m .0, m .1, r .2)
+
+  depends-cases : (a b : ℕ) → (dependentOn o a b ≡ true) ↔ ((a ≡ b) ⊎ Common o a b)
+  unfolding dependentOn
+  depends-cases a b = (λ h. split (or-true (eqb a b) (some (λ j. owns o j b) (members (getD o a 0))) .0 h), join)
+    where
+      split : (eqb a b ≡ true) ⊎ (some (λ j. owns o j b) (members (getD o a 0)) ≡ true) → (a ≡ b) ⊎ Common o a b
+      split (inl e) = inl (eqb-true a b .0 e)
+      split (inr e) = inr (common-exact a b .0 e)
+
+      join : (a ≡ b) ⊎ Common o a b → dependentOn o a b ≡ true
+      join (inl e) = or-true (eqb a b) (some (λ j. owns o j b) (members (getD o a 0))) .1 (inl (eqb-true a b .1 e))
+      join (inr s) = or-true (eqb a b) (some (λ j. owns o j b) (members (getD o a 0))) .1 (inr (common-exact a b .1 s))
+
+  turned : (a b : ℕ) → dependentOn o a b ≡ true → dependentOn o b a ≡ true
+  turned a b h = depends-cases b a .1 (turn (depends-cases a b .0 h))
+    where
+      turn : (a ≡ b) ⊎ Common o a b → (b ≡ a) ⊎ Common o b a
+      turn (inl e) = inl (sym e)
+      turn (inr s) = inr (s .0, s .1, s .3, s .2)
+
+  pub depends-laws : Dependence (dependentOn o)
+  depends-laws =
+      record {
+        reflexive = λ a. depends-cases a a .1 (inl refl);
+        symmetric = λ a b. iff-bool (dependentOn o a b) (dependentOn o b a) (turned a b, turned b a);
+      }
+
+-- ---- the owners of the alphabets of a list
+
+module _ (l : List ℕ) (n : ℕ) (o : List ℕ) (O : Owners (λ j. getD l j 0) n o) (few : n ≤ 16) (fit : (j : ℕ) → getD l j 0 < 2 ^ 64) where
+  pub owners-sixteen : OfSixteen o
+  owners-sixteen = record { size = O .size; small = λ a. lt-of-lt-of-le (owners-lt (λ j. getD l j 0) n o O a) (pow-mono few) }
+
+  pub owners-all : (w : List ℕ) → AllKnown l n w → AllOwned o w
+  owners-all w known a m =
+      let r = some-elim (λ j. member (getD l j 0) a) (below n) (known a m) in
+      owners-known (λ j. getD l j 0) n o O a (member-lt 64 (getD l (r .0) 0) a (fit (r .0)) (r .2)) (r .0) (mem-below n (r .0) .0 (r .1)) (r .2)
+
+  pub owners-depends : dependentOn o ≡ dependentBy l n
+  owners-depends = fun-ext (λ a. fun-ext (λ b. iff-bool (dependentOn o a b) (dependentBy l n a b) (
+    λ h. dependent-cases (alphabetTables l n) a b .1 (there a b (depends-cases o a b .0 h)),
+    λ h. depends-cases o a b .1 (back a b (dependent-cases (alphabetTables l n) a b .0 h)),
+  )))
+    where
+      has : (a j : ℕ) → owns o j a ≡ true → (j < n) × (member (getD l j 0) a ≡ true)
+      has a j m = O .each a (owners-action (λ j. getD l j 0) n o O a j m) j .0 m
+
+      had : (a j : ℕ) → j < n → member (getD l j 0) a ≡ true → owns o j a ≡ true
+      had a j h m = O .each a (member-lt 64 (getD l j 0) a (fit j) m) j .1 (h, m)
+
+      there : (a b : ℕ) → (a ≡ b) ⊎ Common o a b → (a ≡ b) ⊎ Shared (alphabetTables l n) a b
+      there a b (inl e) = inl e
+      there a b (inr s) = let r = has a (s .0) (s .2) in inr (s .0, r .0, r .1, has b (s .0) (s .3) .1)
+
+      back : (a b : ℕ) → (a ≡ b) ⊎ Shared (alphabetTables l n) a b → (a ≡ b) ⊎ Common o a b
+      back a b (inl e) = inl e
+      back a b (inr s) = inr (s .0, lt-of-lt-of-le (s .1) (omega arith), had a (s .0) (s .1) (s .2), had b (s .0) (s .1) (s .3))
+
 -- ---- the level
 
 reach-never : (ss : List (List ℕ)) → reach (λ b. false) ss ≡ 0
 reach-never [] = refl
 reach-never (s ∷ ss) = ap₂ further (none-false (λ b. false) s (λ x m. refl)) (reach-never ss)
 
--- one component more: its own reach counts where it has the action
-reach-more : (m : Bool) (p q : ℕ → Bool) (ss : List (List ℕ)) → reach (λ b. (m && p b) || q b) ss ≡ largerIf m (reach p ss) (reach q ss)
-reach-more true p q ss = reach-or p q ss
-reach-more false p q ss = refl
-
-module _ (l last : List ℕ) (a : ℕ) (ss : List (List ℕ)) where
-  reach-over : (js : List ℕ) → ((j : ℕ) → List·Memᴰ j js → getD last j 0 ≡ reach (member (getD l j 0)) ss)
-      → reach (λ b. some (λ j. member (getD l j 0) a && member (getD l j 0) b) js) ss ≡ levelOver l last a js
+module _ (o last : List ℕ) (ss : List (List ℕ)) where
+  reach-over : (js : List ℕ) → ((j : ℕ) → List·Memᴰ j js → getD last j 0 ≡ reach (owns o j) ss)
+      → reach (λ b. some (λ j. owns o j b) js) ss ≡ largest last js
   reach-over [] h = reach-never ss
   reach-over (j ∷ js) h =
-      reach-more (member (getD l j 0) a) (member (getD l j 0)) (λ b. some (λ j. member (getD l j 0) a && member (getD l j 0) b) js) ss
-      ∙ ap₂ (largerIf (member (getD l j 0) a)) (sym (h j (List·Memᴰ·head refl))) (reach-over js (λ i m. h i (List·Memᴰ·tail m)))
+      reach-or (owns o j) (λ b. some (λ j. owns o j b) js) ss
+      ∙ ap₂ max (sym (h j (List·Memᴰ·head refl))) (reach-over js (λ i m. h i (List·Memᴰ·tail m)))
 
-  module _ (n : ℕ) (known : some (λ j. member (getD l j 0) a) (below n) ≡ true) where
-    -- an action that some alphabet has depends on those of its alphabets
-    depends-shares : (b : ℕ) → dependentBy l n a b ≡ some (λ j. member (getD l j 0) a && member (getD l j 0) b) (below n)
-    unfolding shares
+  module _ (S : OfSixteen o) (a : ℕ) (known : getD o a 0 ≢ 0) where
+    -- an action that has a component depends on those of its components
+    depends-shares : (b : ℕ) → dependentOn o a b ≡ some (λ j. owns o j b) (members (getD o a 0))
     depends-shares b =
-        let r = some-elim (λ j. member (getD l j 0) a) (below n) known in
-        let k : Known (alphabetTables l n) a = (r .0, mem-below n (r .0) .0 (r .1), r .2) in
-        iff-bool (dependentBy l n a b) (shares (alphabetTables l n) a b) (
-          λ h. shares-exact (alphabetTables l n) a b .1 (dependent-shares (alphabetTables l n) a b k .0 h),
-          λ h. dependent-shares (alphabetTables l n) a b k .1 (shares-exact (alphabetTables l n) a b .0 h),
+        iff-bool (dependentOn o a b) (some (λ j. owns o j b) (members (getD o a 0))) (
+          λ h. common-exact o a b .1 (shared (depends-cases o a b .0 h)),
+          λ h. depends-cases o a b .1 (inr (common-exact o a b .0 h)),
         )
+      where
+        shared : (a ≡ b) ⊎ Common o a b → Common o a b
+        shared (inr s) = s
+        shared (inl e) =
+            let r = member-some (getD o a 0) known in
+            let h = member-lt 16 (getD o a 0) (r .0) (S .small a) (r .1) in
+            (r .0, omega arith, r .1, ap (owns o (r .0)) (sym e) ∙ r .1)
 
     -- the level law
-    pub level-reach : ((j : ℕ) → j < n → getD last j 0 ≡ reach (member (getD l j 0)) ss) → levelOf l last n a ≡ reach (dependentBy l n a) ss
-    unfolding levelOf
+    pub level-reach : ((j : ℕ) → j < 16 → getD last j 0 ≡ reach (owns o j) ss) → largest last (members (getD o a 0)) ≡ reach (dependentOn o a) ss
     level-reach shown =
-        sym (ap (λ (p : ℕ → Bool). reach p ss) (fun-ext depends-shares) ∙ reach-over (below n) (λ j m. shown j (mem-below n j .0 m)))
+        sym (ap (λ (p : ℕ → Bool). reach p ss) (fun-ext depends-shares) ∙ reach-over (members (getD o a 0)) (λ j m. shown j (mine j m)))
+      where
+        mine : (j : ℕ) → List·Memᴰ j (members (getD o a 0)) → j < 16
+        mine j m = member-lt 16 (getD o a 0) j (S .small a) (members-mem (getD o a 0) j .0 m .1)
 
-larger-if : (b : Bool) (x y : ℕ) → y ≤ largerIf b x y
-larger-if true x y = omega arith
-larger-if false x y = omega arith
-
--- the entry of each component that has the action is at most the level
-covered : (l last : List ℕ) (a : ℕ) (js : List ℕ) (j : ℕ) → List·Memᴰ j js → member (getD l j 0) a ≡ true → getD last j 0 ≤ levelOver l last a js
-covered l last a (i ∷ js) j (List·Memᴰ·head e) m =
-    rw (ap (λ (x : ℕ). member (getD l x 0) a) (sym e) ∙ m) (let q = ap (λ (x : ℕ). getD last x 0) e in omega arith)
-covered l last a (i ∷ js) j (List·Memᴰ·tail t) m =
-    let rest = covered l last a js j t m in omega (arith, larger-if (member (getD l i 0) a) (getD last i 0) (levelOver l last a js))
-
-pub level-covers : (l last : List ℕ) (n a j : ℕ) → j < n → member (getD l j 0) a ≡ true → getD last j 0 ≤ levelOf l last n a
-unfolding levelOf
-level-covers l last n a j h m = covered l last a (below n) j (mem-below n j .1 h) m
-
--- ---- the level gathered from the last component down to the first
-
-module _ (l last : List ℕ) (a : ℕ) where
-  -- the level over the k components from j on
-  unfoldable pub levelFrom : ℕ → ℕ → ℕ
-  levelFrom j k = levelOver l last a (upward j k)
-
-  pub level-none : (j k : ℕ) → k ≡ 0 → 0 ≡ levelFrom j k
-  unfolding levelFrom upward
-  level-none j zero e = refl
-  level-none j (suc k) e = absurd (omega arith)
-
-  pub level-down : (i j k m : ℕ) → j ≡ suc i → m ≡ suc k → levelFrom i m ≡ largerIf (member (getD l i 0) a) (getD last i 0) (levelFrom j k)
-  unfolding levelFrom upward
-  level-down i j k m e f =
-      ap (λ (x : ℕ). levelOver l last a (upward i x)) f
-      ∙ ap (λ (x : ℕ). largerIf (member (getD l i 0) a) (getD last i 0) (levelOver l last a (upward x k))) (sym e)
-
-  pub level-all : (n j k : ℕ) → j ≡ 0 → k ≡ n → levelFrom j k ≡ levelOf l last n a
-  unfolding levelFrom levelOf below
-  level-all n j k e f = ap₂ (λ (x y : ℕ). levelOver l last a (upward x y)) e f
+-- the entry of each component of the list is at most the largest
+pub largest-covers : (last js : List ℕ) (j : ℕ) → List·Memᴰ j js → getD last j 0 ≤ largest last js
+largest-covers last (i ∷ js) j (List·Memᴰ·head e) = let q = ap (λ (x : ℕ). getD last x 0) e in omega arith
+largest-covers last (i ∷ js) j (List·Memᴰ·tail t) = let rest = largest-covers last js j t in omega arith

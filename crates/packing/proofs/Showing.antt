@@ -1,27 +1,26 @@
 -- What the two arrays show once an action has been placed, and once a word has: from what they showed before.
 -- Assumes nothing.
 use mathlib.Core.Path.{_≡_, refl, sym, ap, ap₂, _∙_, subst}
-use mathlib.Core.Bool.{Bool, true, false, cond, _||_}
+use mathlib.Core.Bool.{Bool, true, false, _||_}
 use mathlib.Core.List.{List, [], _∷_, _++_, map, List·Memᴰ·head, Memᴰ·append-left, Memᴰ·append-right}
-use mathlib.Core.Logic.{_⊎_, inl, inr}
-use Prim.Native.Nat.{ℕ, zero, suc, _+_, _-_, _≤_, _<_, max}
-use native.Mathlib.Nat.{eq-or-lt-of-le}
+use mathlib.Core.Logic.{_↔_, _⊎_, inl, inr}
+use Prim.Native.Nat.{ℕ, zero, suc, _+_, _-_, _^_, _≤_, _<_, max}
 use native.Mathlib.Numerals.{add-one}
 use native.Mathlib.Omega.{arith}
 use lib.Dec.{eqb}
 use lib.ListN.{length, getD, set, replicate, length-append}
 use lib.Seq.{getD-set-same, getD-set-other}
 use Rattle.sets.specs.Lists.{some}
-use Rattle.sets.specs.Bits.{member, with, setOf}
-use Rattle.sets.proofs.Bools.{true-or-false}
-use Rattle.sets.proofs.Members.{member-zero, member-with, member-ext}
+use Rattle.sets.specs.Bits.{member, members, with, setOf}
+use Rattle.sets.proofs.Bools.{true-or-false, clash, false-iff}
+use Rattle.sets.proofs.Members.{member-zero, member-with, member-ext, member-lt, members-mem, members-zero}
 use Rattle.traces.specs.Foata.{insert, putAt, reach, place, placeAll}
 use Rattle.traces.proofs.Insert.{some-insert}
 use Rattle.traces.proofs.Reach.{reach-le, reach-miss, reach-hit}
 use Rattle.traces.proofs.Placing.{put-length, placeAll-append}
-use Rattle.systems.proofs.Dependence.{dependent-laws}
-use Rattle.packing.specs.Levels.{alphabetTables, dependentBy, levelOf, Shows, Marked, AllKnown, Bounded, Placed}
-use Rattle.packing.proofs.Dependences.{level-reach, level-covers}
+use Rattle.owners.proofs.Entering.{lowest-or-rest}
+use Rattle.packing.specs.Levels.{owns, dependentOn, OfSixteen, AllOwned, largest, Shows, Marked, Bounded, Placed}
+use Rattle.packing.proofs.Dependences.{depends-laws, level-reach, largest-covers}
 
 -- ---- the sets of the steps
 
@@ -51,102 +50,108 @@ put-sets a zero (s ∷ ss) z y h e =
 put-sets a (suc k) [] z y h e = absurd (omega arith)
 put-sets a (suc k) (s ∷ ss) z y h e = ap (λ (t : List ℕ). setOf s ∷ t) (put-sets a k ss z y (omega arith) (omega arith))
 
--- ---- marking an action, component by component
+-- ---- walking over the components of an action
 
--- the entries below j are marked, and those from j on are as they were
-pub record Marking (l : List ℕ) (a level : ℕ) (before after : List ℕ) (j : ℕ) : Type 0 where
-  pub done : Marked l j a level before after
-  pub left : (i : ℕ) → j ≤ i → getD after i 0 ≡ getD before i 0
+-- the first component of a set
+pub first-below : (x r : ℕ) (rest : List ℕ) → x < 2 ^ 16 → members x ≡ r ∷ rest → r < 16
+first-below x r rest h e = member-lt 16 x r h (members-mem x r .0 (rw e (List·Memᴰ·head refl)) .1)
 
-pub marking-none : (l : List ℕ) (a level : ℕ) (before : List ℕ) → Marking l a level before before 0
-marking-none l a level before =
-    record { done = record { has = λ j h. absurd (omega arith); others = λ j h e. refl }; left = λ i h. refl }
+-- no component is left to mark
+pub marked-none : (left level : ℕ) (last : List ℕ) → left ≡ 0 → Marked left level last last
+marked-none left level last e =
+    record { has = λ j h m. absurd (clash m (ap (λ (x : ℕ). member x j) e ∙ member-zero j)); others = λ j h m. refl }
 
-module _ (l : List ℕ) (a level : ℕ) (before after : List ℕ) (j i : ℕ) (v : ℕ) (e : i ≡ j + 1) (fits : j < length after)
-    (val : v ≡ cond (member (getD l j 0) a) (level + 1) (getD after j 0)) (M : Marking l a level before after j) where
-  same-at : (k : ℕ) → k ≡ j → getD (set after j v) k 0 ≡ cond (member (getD l j 0) a) (level + 1) (getD after j 0)
-  same-at k q = ap (λ (x : ℕ). getD (set after j v) x 0) q ∙ getD-set-same after j v 0 fits ∙ val
+-- the first component was marked, and then the rest
+pub marked-more : (left low rest level : ℕ) (last after : List ℕ) → low < length last → members left ≡ low ∷ members rest
+    → Marked rest level (set last low (level + 1)) after → Marked left level last after
+marked-more left low rest level last after fits first M =
+    record {
+      has = λ j h m. has j h (parts j h .0 m) (true-or-false (member rest j));
+      others = λ j h m. others j h (λ t. clash (parts j h .1 t) m);
+    }
+  where
+    parts : (j : ℕ) → j < 16 → (member left j ≡ true) ↔ ((j ≡ low) ⊎ (member rest j ≡ true))
+    parts j h = lowest-or-rest left low rest first j (omega arith)
 
-  more-has : (k : ℕ) → (k ≡ j) ⊎ (k < j) → member (getD l k 0) a ≡ true → getD (set after j v) k 0 ≡ suc level
-  more-has k (inr h) m = getD-set-other after j k v 0 (omega arith) ∙ M .done .has k h m
-  more-has k (inl q) m =
-      same-at k q
-      ∙ ap (λ (b : Bool). cond b (level + 1) (getD after j 0)) (ap (λ (x : ℕ). member (getD l x 0) a) (sym q) ∙ m)
-      ∙ add-one level
+    has : (j : ℕ) → j < 16 → (j ≡ low) ⊎ (member rest j ≡ true) → (member rest j ≡ true) ⊎ (member rest j ≡ false) → getD after j 0 ≡ suc level
+    has j h s (inl m) = M .has j h m
+    has j h (inr m) (inr n) = absurd (clash m n)
+    has j h (inl q) (inr n) =
+        M .others j h n
+        ∙ ap (λ (k : ℕ). getD (set last low (level + 1)) k 0) q
+        ∙ getD-set-same last low (level + 1) 0 fits
+        ∙ add-one level
 
-  more-others : (k : ℕ) → (k ≡ j) ⊎ (k < j) → member (getD l k 0) a ≡ false → getD (set after j v) k 0 ≡ getD before k 0
-  more-others k (inr h) m = getD-set-other after j k v 0 (omega arith) ∙ M .done .others k h m
-  more-others k (inl q) m =
-      same-at k q
-      ∙ ap (λ (b : Bool). cond b (level + 1) (getD after j 0)) (ap (λ (x : ℕ). member (getD l x 0) a) (sym q) ∙ m)
-      ∙ M .left j (omega arith)
-      ∙ ap (λ (x : ℕ). getD before x 0) (sym q)
+    others : (j : ℕ) → j < 16 → ¬ ((j ≡ low) ⊎ (member rest j ≡ true)) → getD after j 0 ≡ getD last j 0
+    others j h n =
+        M .others j h (false-iff (member rest j) .1 (λ m. n (inr m))) ∙ getD-set-other last low j (level + 1) 0 (λ q. n (inl q))
 
-  pub marking-more : Marking l a level before (set after j v) i
-  marking-more =
-      record {
-        done = record { has = λ k h. more-has k (split k h); others = λ k h. more-others k (split k h) };
-        left = λ k h. getD-set-other after j k v 0 (omega arith) ∙ M .left k (omega arith);
-      }
-    where
-      split : (k : ℕ) → k < i → (k ≡ j) ⊎ (k < j)
-      split k h = eq-or-lt-of-le (omega arith)
+-- the largest entry, with the first component taken out
+pub largest-more : (last : List ℕ) (left low rest at next all : ℕ) → members left ≡ low ∷ members rest → next ≡ max (getD last low 0) at
+    → max at (largest last (members left)) ≡ all → max next (largest last (members rest)) ≡ all
+largest-more last left low rest at next all first e h = let q = ap (largest last) first in omega arith
+
+-- nothing is left
+pub largest-none : (last : List ℕ) (left at all : ℕ) → left ≡ 0 → max at (largest last (members left)) ≡ all → at ≡ all
+largest-none last left at all e h = let q : largest last (members left) ≡ 0 = ap (λ (x : ℕ). largest last (members x)) e ∙ ap (largest last) members-zero in omega arith
 
 -- ---- placing one action
 
-module _ (l : List ℕ) (n a : ℕ) (known : AllKnown l n (a ∷ [])) (last packed : List ℕ) (count : ℕ) where
+module _ (o : List ℕ) (fit : OfSixteen o) (a : ℕ) (known : AllOwned o (a ∷ [])) (last packed : List ℕ) (count : ℕ) where
   -- the level that the arrays give, over whatever steps they show
-  level-shown : (ss : List (List ℕ)) → Shows l n ss last packed count → levelOf l last n a ≡ reach (dependentBy l n a) ss
-  level-shown ss S = level-reach l last a ss n (known a (List·Memᴰ·head refl)) (S .last-steps)
+  level-shown : (ss : List (List ℕ)) → Shows o ss last packed count → largest last (members (getD o a 0)) ≡ reach (dependentOn o a) ss
+  level-shown ss S = level-reach o last ss fit a (known a (List·Memᴰ·head refl)) (S .last-steps)
 
-  pub level-bound : Bounded l n last packed count 1 → levelOf l last n a < 1024
+  pub level-bound : Bounded o last packed count 1 → largest last (members (getD o a 0)) < 1024
   level-bound B =
       let at = level-shown (B .steps) (B .shows) in
-      let le = reach-le (dependentBy l n a) (B .steps) in
+      let le = reach-le (dependentOn o a) (B .steps) in
       let all = B .shows .counted in
       let room = B .room in
       omega arith
 
-  module _ (level : ℕ) (at : level ≡ levelOf l last n a) (within : level < 1024) (last′ packed′ : List ℕ) (count′ : ℕ)
-      (marks : Marked l n a level last last′) (puts : packed′ ≡ set packed level (with a (getD packed level 0)))
+  module _ (level : ℕ) (at : level ≡ largest last (members (getD o a 0))) (within : level < 1024) (last′ packed′ : List ℕ) (count′ : ℕ)
+      (marks : Marked (getD o a 0) level last last′) (puts : packed′ ≡ set packed level (with a (getD packed level 0)))
       (counts : count′ ≡ max count (level + 1)) where
-    module _ (ss : List (List ℕ)) (S : Shows l n ss last packed count) where
-      here : level ≡ reach (dependentBy l n a) ss
+    module _ (ss : List (List ℕ)) (S : Shows o ss last packed count) where
+      here : level ≡ reach (dependentOn o a) ss
       here = at ∙ level-shown ss S
 
       -- no component of the action was reached beyond its level
-      behind : (j : ℕ) → j < n → member (getD l j 0) a ≡ true → reach (member (getD l j 0)) ss ≤ level
-      behind j h m = let e = S .last-steps j h in omega (arith, level-covers l last n a j h m)
+      behind : (j : ℕ) → j < 16 → owns o j a ≡ true → reach (owns o j) ss ≤ level
+      behind j h m =
+          let e = S .last-steps j h in
+          omega (arith, largest-covers last (members (getD o a 0)) j (members-mem (getD o a 0) j .1 (omega arith, m)))
 
-      lasts : (j : ℕ) → j < n → getD last′ j 0 ≡ reach (member (getD l j 0)) (putAt a level ss)
-      lasts j h = go (true-or-false (member (getD l j 0) a))
+      lasts : (j : ℕ) → j < 16 → getD last′ j 0 ≡ reach (owns o j) (putAt a level ss)
+      lasts j h = go (true-or-false (owns o j a))
         where
-          go : (member (getD l j 0) a ≡ true) ⊎ (member (getD l j 0) a ≡ false) → getD last′ j 0 ≡ reach (member (getD l j 0)) (putAt a level ss)
-          go (inl m) = let far = behind j h m in marks .has j h m ∙ omega (arith, reach-hit (member (getD l j 0)) a level ss m)
-          go (inr m) = marks .others j h m ∙ S .last-steps j h ∙ sym (reach-miss (member (getD l j 0)) a level ss m)
+          go : (owns o j a ≡ true) ⊎ (owns o j a ≡ false) → getD last′ j 0 ≡ reach (owns o j) (putAt a level ss)
+          go (inl m) = let far = behind j h m in marks .has j h m ∙ omega (arith, reach-hit (owns o j) a level ss m)
+          go (inr m) = marks .others j h m ∙ S .last-steps j h ∙ sym (reach-miss (owns o j) a level ss m)
 
       sets-then : packed′ ≡ map setOf (putAt a level ss) ++ replicate (1024 - count′) 0
       sets-then =
           let all = S .counted in
           let few = S .few in
           let size = put-length a level ss in
-          let le = reach-le (dependentBy l n a) ss in
+          let le = reach-le (dependentOn o a) ss in
           let q = here in
           puts
           ∙ ap (λ (p : List ℕ). set p level (with a (getD p level 0))) (S .packed-sets)
           ∙ put-sets a level ss (1024 - count) (1024 - count′) (omega arith) (omega arith)
 
-      put-shows : Shows l n (putAt a level ss) last′ packed′ count′
+      put-shows : Shows o (putAt a level ss) last′ packed′ count′
       put-shows =
           let all = S .counted in
           let few = S .few in
           let size = put-length a level ss in
           record { counted = omega arith; few = omega arith; packed-sets = sets-then; last-steps = lasts }
 
-      place-shows : Shows l n (placeAll (dependentBy l n) ss (a ∷ [])) last′ packed′ count′
-      place-shows = subst (λ (k : ℕ). Shows l n (putAt a k ss) last′ packed′ count′) here put-shows
+      place-shows : Shows o (placeAll (dependentOn o) ss (a ∷ [])) last′ packed′ count′
+      place-shows = subst (λ (k : ℕ). Shows o (putAt a k ss) last′ packed′ count′) here put-shows
 
-    pub place-one : Placed l n (a ∷ []) last packed count last′ packed′ count′
+    pub place-one : Placed o (a ∷ []) last packed count last′ packed′ count′
     place-one = record { shown = place-shows }
 
 -- ---- placing a word, part by part
@@ -159,33 +164,33 @@ place-length dep ss (a ∷ w) =
     omega (arith, reach-le (dep a) ss)
 
 -- the actions of w are still to be placed on what the arrays show; once they are, Done holds of the arrays and the count
-pub record Remaining (l : List ℕ) (n : ℕ) (w last packed : List ℕ) (count : ℕ) (Done : List ℕ → List ℕ → ℕ → Type 0) : Type 0 where
+pub record Remaining (o w last packed : List ℕ) (count : ℕ) (Done : List ℕ → List ℕ → ℕ → Type 0) : Type 0 where
   pub last-size : length last ≡ 16
   pub packed-size : length packed ≡ 1024
-  pub known : AllKnown l n w
-  pub bounded : Bounded l n last packed count (length w)
-  pub finish : (last′ packed′ : List ℕ) (count′ : ℕ) → Placed l n w last packed count last′ packed′ count′ → Done last′ packed′ count′
+  pub known : AllOwned o w
+  pub bounded : Bounded o last packed count (length w)
+  pub finish : (last′ packed′ : List ℕ) (count′ : ℕ) → Placed o w last packed count last′ packed′ count′ → Done last′ packed′ count′
 
-module _ (l : List ℕ) (n : ℕ) (last packed : List ℕ) (count : ℕ) (Done : List ℕ → List ℕ → ℕ → Type 0) where
+module _ (o last packed : List ℕ) (count : ℕ) (Done : List ℕ → List ℕ → ℕ → Type 0) where
   -- nothing is left
-  pub remaining-none : (w : List ℕ) → w ≡ [] → Remaining l n w last packed count Done → Done last packed count
+  pub remaining-none : (w : List ℕ) → w ≡ [] → Remaining o w last packed count Done → Done last packed count
   remaining-none w e R = R .finish last packed count (record { shown = λ ss S. rw e S })
 
-  module _ (w u v : List ℕ) (e : w ≡ u ++ v) (R : Remaining l n w last packed count Done) where
+  module _ (w u v : List ℕ) (e : w ≡ u ++ v) (R : Remaining o w last packed count Done) where
     -- what the next part may be placed by
-    pub part-known : AllKnown l n u
+    pub part-known : AllOwned o u
     part-known a m = R .known a (rw e (Memᴰ·append-left v m))
 
-    pub part-bounded : Bounded l n last packed count (length u)
+    pub part-bounded : Bounded o last packed count (length u)
     part-bounded =
         let room = R .bounded .room in
         let size : length w ≡ length u + length v = ap length e ∙ length-append u v in
         record { steps = R .bounded .steps; shows = R .bounded .shows; room = omega arith }
 
-    module _ (last′ packed′ : List ℕ) (count′ : ℕ) (P : Placed l n u last packed count last′ packed′ count′)
+    module _ (last′ packed′ : List ℕ) (count′ : ℕ) (P : Placed o u last packed count last′ packed′ count′)
         (same-last : length last′ ≡ length last) (same-packed : length packed′ ≡ length packed) where
       -- and what is left once it has been
-      pub remaining-rest : Remaining l n v last′ packed′ count′ Done
+      pub remaining-rest : Remaining o v last′ packed′ count′ Done
       remaining-rest =
           record {
             last-size = same-last ∙ R .last-size;
@@ -195,23 +200,23 @@ module _ (l : List ℕ) (n : ℕ) (last packed : List ℕ) (count : ℕ) (Done :
             finish = λ last″ packed″ count″ Q. R .finish last″ packed″ count″ (both last″ packed″ count″ Q);
           }
         where
-          later : Bounded l n last′ packed′ count′ (length v)
+          later : Bounded o last′ packed′ count′ (length v)
           later =
               let B = R .bounded in
               let S = P .shown (B .steps) (B .shows) in
               let size : length w ≡ length u + length v = ap length e ∙ length-append u v in
-              let grown = place-length (dependentBy l n) (B .steps) u in
+              let grown = place-length (dependentOn o) (B .steps) u in
               let before = B .shows .counted in
               let after = S .counted in
               let room = B .room in
-              record { steps = placeAll (dependentBy l n) (B .steps) u; shows = S; room = omega arith }
+              record { steps = placeAll (dependentOn o) (B .steps) u; shows = S; room = omega arith }
 
-          both : (last″ packed″ : List ℕ) (count″ : ℕ) → Placed l n v last′ packed′ count′ last″ packed″ count″
-              → Placed l n w last packed count last″ packed″ count″
-          both last″ packed″ count″ Q = record { shown = λ ss S. whole ss (Q .shown (placeAll (dependentBy l n) ss u) (P .shown ss S)) }
+          both : (last″ packed″ : List ℕ) (count″ : ℕ) → Placed o v last′ packed′ count′ last″ packed″ count″
+              → Placed o w last packed count last″ packed″ count″
+          both last″ packed″ count″ Q = record { shown = λ ss S. whole ss (Q .shown (placeAll (dependentOn o) ss u) (P .shown ss S)) }
             where
-              whole : (ss : List (List ℕ)) → Shows l n (placeAll (dependentBy l n) (placeAll (dependentBy l n) ss u) v) last″ packed″ count″
-                  → Shows l n (placeAll (dependentBy l n) ss w) last″ packed″ count″
+              whole : (ss : List (List ℕ)) → Shows o (placeAll (dependentOn o) (placeAll (dependentOn o) ss u) v) last″ packed″ count″
+                  → Shows o (placeAll (dependentOn o) ss w) last″ packed″ count″
               whole ss S =
-                  subst (λ (ts : List (List ℕ)). Shows l n ts last″ packed″ count″)
-                  (sym (ap (placeAll (dependentBy l n) ss) e ∙ placeAll-append (dependentBy l n) (dependent-laws (alphabetTables l n)) ss u v)) S
+                  subst (λ (ts : List (List ℕ)). Shows o ts last″ packed″ count″)
+                  (sym (ap (placeAll (dependentOn o) ss) e ∙ placeAll-append (dependentOn o) (depends-laws o) ss u v)) S

@@ -1,49 +1,61 @@
 -- Levels kept in two arrays: for each component one past the last step that has an action of it, and the steps as sets.
+-- Which components have an action stands in a list of their sets, the owners.
 -- Assumes nothing.
 use mathlib.Core.Path.{_≡_}
-use mathlib.Core.Bool.{Bool, true, false}
+use mathlib.Core.Logic.{_≢_}
+use mathlib.Core.Bool.{Bool, true, false, _||_}
 use mathlib.Core.List.{List, [], _∷_, _++_, map, List·Memᴰ}
-use Prim.Native.Nat.{ℕ, suc, _+_, _-_, _<_, _≤_, max}
+use Prim.Native.Nat.{ℕ, suc, _+_, _-_, _^_, _<_, _≤_, max}
+use lib.Dec.{eqb}
 use lib.ListN.{length, getD, replicate}
-use Rattle.sets.specs.Lists.{some, below}
-use Rattle.sets.specs.Bits.{member, setOf}
+use Rattle.sets.specs.Lists.{some}
+use Rattle.sets.specs.Bits.{member, members, setOf}
 use Rattle.traces.specs.Foata.{reach, placeAll, foata}
 pub use Rattle.systems.specs.Independence.{alphabetTables, dependentBy, AllKnown}
 
-abbrev pub largerIf : Bool → ℕ → ℕ → ℕ
-largerIf true x y = max x y
-largerIf false x y = y
+-- the component j has the action a
+abbrev pub owns : List ℕ → ℕ → ℕ → Bool
+owns o j a = member (getD o a 0) j
 
--- the largest entry of `last` over the components of a list that have the action a
-abbrev pub levelOver : List ℕ → List ℕ → ℕ → List ℕ → ℕ
-levelOver l last a [] = 0
-levelOver l last a (j ∷ js) = largerIf (member (getD l j 0) a) (getD last j 0) (levelOver l last a js)
+-- dependence by owners: one and the same action, or two with a component in common
+unfoldable pub dependentOn : List ℕ → ℕ → ℕ → Bool
+dependentOn o a b = eqb a b || some (λ j. owns o j b) (members (getD o a 0))
 
--- the largest entry of `last` over the n components that have the action a
-unfoldable pub levelOf : List ℕ → List ℕ → ℕ → ℕ → ℕ
-levelOf l last n a = levelOver l last a (below n)
+-- sets of components below 16, one for each of the 64 actions
+pub record OfSixteen (o : List ℕ) : Type 0 where
+  pub size : length o ≡ 64
+  pub small : (a : ℕ) → getD o a 0 < 2 ^ 16
+
+-- every action of the list has a component
+abbrev pub AllOwned : List ℕ → List ℕ → Type 0
+AllOwned o w = (a : ℕ) → List·Memᴰ a w → getD o a 0 ≢ 0
+
+-- the largest entry over the components of a list
+abbrev pub largest : List ℕ → List ℕ → ℕ
+largest last [] = 0
+largest last (j ∷ js) = max (getD last j 0) (largest last js)
 
 -- the arrays show the steps ss, `count` of them: their sets, zeros behind them, and for each component one past its last step
-pub record Shows (l : List ℕ) (n : ℕ) (ss : List (List ℕ)) (last packed : List ℕ) (count : ℕ) : Type 0 where
+pub record Shows (o : List ℕ) (ss : List (List ℕ)) (last packed : List ℕ) (count : ℕ) : Type 0 where
   pub counted : count ≡ length ss
   pub few : count ≤ 1024
   pub packed-sets : packed ≡ map setOf ss ++ replicate (1024 - count) 0
-  pub last-steps : (j : ℕ) → j < n → getD last j 0 ≡ reach (member (getD l j 0)) ss
+  pub last-steps : (j : ℕ) → j < 16 → getD last j 0 ≡ reach (owns o j) ss
 
--- the entries of `last` after an action at a level: one past it for the components that have the action, the others as they were
-pub record Marked (l : List ℕ) (n a level : ℕ) (before after : List ℕ) : Type 0 where
-  pub has : (j : ℕ) → j < n → member (getD l j 0) a ≡ true → getD after j 0 ≡ suc level
-  pub others : (j : ℕ) → j < n → member (getD l j 0) a ≡ false → getD after j 0 ≡ getD before j 0
+-- the entries of `last` after an action at a level: one past it for the components of a set, the others as they were
+pub record Marked (mine level : ℕ) (before after : List ℕ) : Type 0 where
+  pub has : (j : ℕ) → j < 16 → member mine j ≡ true → getD after j 0 ≡ suc level
+  pub others : (j : ℕ) → j < 16 → member mine j ≡ false → getD after j 0 ≡ getD before j 0
 
 -- the arrays show some steps, `count` of them, and there is room for k more
-pub record Bounded (l : List ℕ) (n : ℕ) (last packed : List ℕ) (count k : ℕ) : Type 0 where
+pub record Bounded (o last packed : List ℕ) (count k : ℕ) : Type 0 where
   pub steps : List (List ℕ)
-  pub shows : Shows l n steps last packed count
+  pub shows : Shows o steps last packed count
   pub room : count + k ≤ 1024
 
 -- whatever steps the arrays showed, they now show those with the actions of w placed on them
-pub record Placed (l : List ℕ) (n : ℕ) (w last packed : List ℕ) (count : ℕ) (last′ packed′ : List ℕ) (count′ : ℕ) : Type 0 where
-  pub shown : (ss : List (List ℕ)) → Shows l n ss last packed count → Shows l n (placeAll (dependentBy l n) ss w) last′ packed′ count′
+pub record Placed (o w last packed : List ℕ) (count : ℕ) (last′ packed′ : List ℕ) (count′ : ℕ) : Type 0 where
+  pub shown : (ss : List (List ℕ)) → Shows o ss last packed count → Shows o (placeAll (dependentOn o) ss w) last′ packed′ count′
 
 -- the array holds the steps of the word's normal form, and behind them zeros
 pub record Packed (l : List ℕ) (n : ℕ) (w packed : List ℕ) (count : ℕ) : Type 0 where

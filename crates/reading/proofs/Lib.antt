@@ -1,6 +1,3 @@
-pub mod Parts
-pub mod Order
-pub mod Trailer
-pub mod Searching
+pub mod Steps
 pub mod Sections
 pub mod Passing

@@ -7,16 +7,18 @@ use mathlib.Core.Bool.{Bool, true, false}
 use mathlib.Core.List.{List}
 use Prim.Native.Nat.{ℕ, _+_, _-_, _*_, _≤_, _<_}
 use native.Mathlib.Omega.{arith}
-use lib.ListN.{length, take, drop, length-take, length-drop}
+use lib.ListN.{length, getD, take, drop, length-take, length-drop}
 use Rattle.sets.proofs.Bools.{ltb-true, ltb-false}
 use Rattle.systems.specs.Checking.{flat}
+use Rattle.sheet.specs.Numbers.{field}
 use Rattle.sheet.specs.Layout.{transitionsAt, stepsAt, componentCount, actionCount, steps}
 use Rattle.sheet.specs.Refusals.{lengthWrong, markWrong, countsWrong, offsetsWrong, recordsWrong, actionUnused, transitionsWrong, orderWrong, tooManyActions}
 use Rattle.sheet.specs.Verdict.{Verdict, accepted, refused, refuseIf}
 use Rattle.sheet.proofs.Limits.{length-right, counts-right, offsets-right}
+use Rattle.trailer.specs.Numbered.{numberIf, trailerNumber}
+use Rattle.trailer.proofs.Trailer.{components-read, actions-read}
 use Rattle.reading.specs.declared.Reading.the-variants.{Accepted as sound, Refused as turned}
 use Rattle.reading.specs.Reading.{readingOf, trailerThen, tablesThen, countThen}
-use Rattle.reading.specs.Tests.{numberIf}
 use Rattle.reading.proofs.Sections.{Sectioned}
 
 -- ---- the trailer
@@ -106,34 +108,56 @@ module _ (b : List ℕ) (k i : ℕ) where
       none : turned k i ≡ readingOf b accepted → turned k i ≡ readingOf b v
       none e = let z : _≡_ {A = ℕ} 0 1 = cc in absurd (omega arith)
 
--- ---- the tables
+-- ---- four refusals in a row, told as one number
+
+-- the lowest of four refusals that holds, or 0
+abbrev pub lowest : Bool → ℕ → Bool → ℕ → Bool → ℕ → Bool → ℕ → ℕ
+lowest p i q j r k s l = numberIf p i (numberIf q j (numberIf r k (numberIf s l 0)))
+
+abbrev pub refusing : Bool → ℕ → Bool → ℕ → Bool → ℕ → Bool → ℕ → Verdict → Verdict
+refusing p i q j r k s l v = refuseIf p i (refuseIf q j (refuseIf r k (refuseIf s l v)))
+
+module _ (b : List ℕ) (x : ℕ) (v : Verdict) (i j k l : ℕ) where
+  refused-by : (p q r s : Bool) → x ≡ lowest p i q j r k s l → x ≢ 0 → turned x 0 ≡ readingOf b (refusing p i q j r k s l v)
+  refused-by true q r s e n = ap (λ (y : ℕ). turned y 0) e
+  refused-by false true r s e n = ap (λ (y : ℕ). turned y 0) e
+  refused-by false false true s e n = ap (λ (y : ℕ). turned y 0) e
+  refused-by false false false true e n = ap (λ (y : ℕ). turned y 0) e
+  refused-by false false false false e n = absurd (n e)
+
+  passed-by : 0 < i → 0 < j → 0 < k → 0 < l → (p q r s : Bool) → x ≡ lowest p i q j r k s l → x ≡ 0 → refusing p i q j r k s l v ≡ v
+  passed-by hi hj hk hl true q r s e z = absurd (omega arith)
+  passed-by hi hj hk hl false true r s e z = absurd (omega arith)
+  passed-by hi hj hk hl false false true s e z = absurd (omega arith)
+  passed-by hi hj hk hl false false false true e z = absurd (omega arith)
+  passed-by hi hj hk hl false false false false e z = refl
 
 -- refusals 5 to 8 as one number
 abbrev pub number-of : List ℕ → ℕ
-number-of b = numberIf (recordsWrong b) 5 (numberIf (actionUnused b) 6 (numberIf (transitionsWrong b) 7 (numberIf (orderWrong b) 8 0)))
+number-of b = lowest (recordsWrong b) 5 (actionUnused b) 6 (transitionsWrong b) 7 (orderWrong b) 8
 
 module _ (b : List ℕ) (x : ℕ) (v : Verdict) where
-  refused-by : (p q r s : Bool) → x ≡ numberIf p 5 (numberIf q 6 (numberIf r 7 (numberIf s 8 0))) → x ≢ 0
-      → turned x 0 ≡ readingOf b (refuseIf p 5 (refuseIf q 6 (refuseIf r 7 (refuseIf s 8 v))))
-  refused-by true q r s e n = ap (λ (k : ℕ). turned k 0) e
-  refused-by false true r s e n = ap (λ (k : ℕ). turned k 0) e
-  refused-by false false true s e n = ap (λ (k : ℕ). turned k 0) e
-  refused-by false false false true e n = ap (λ (k : ℕ). turned k 0) e
-  refused-by false false false false e n = absurd (n e)
+  pub trailer-turned : x ≡ trailerNumber b → x ≢ 0 → turned x 0 ≡ readingOf b (trailerThen b v)
+  unfolding trailerNumber
+  trailer-turned = refused-by b x v 1 2 3 4 (lengthWrong b) (markWrong b) (countsWrong b) (offsetsWrong b)
 
-  passed-by : (p q r s : Bool) → x ≡ numberIf p 5 (numberIf q 6 (numberIf r 7 (numberIf s 8 0))) → x ≡ 0
-      → refuseIf p 5 (refuseIf q 6 (refuseIf r 7 (refuseIf s 8 v))) ≡ v
-  passed-by true q r s e z = absurd (omega arith)
-  passed-by false true r s e z = absurd (omega arith)
-  passed-by false false true s e z = absurd (omega arith)
-  passed-by false false false true e z = absurd (omega arith)
-  passed-by false false false false e z = refl
+  pub trailer-passed : x ≡ trailerNumber b → x ≡ 0 → trailerThen b v ≡ v
+  unfolding trailerNumber
+  trailer-passed =
+      passed-by b x v 1 2 3 4 (omega arith) (omega arith) (omega arith) (omega arith) (lengthWrong b) (markWrong b) (countsWrong b) (offsetsWrong b)
 
   pub tables-refused : x ≡ number-of b → x ≢ 0 → turned x 0 ≡ readingOf b (tablesThen b v)
-  tables-refused = refused-by (recordsWrong b) (actionUnused b) (transitionsWrong b) (orderWrong b)
+  tables-refused = refused-by b x v 5 6 7 8 (recordsWrong b) (actionUnused b) (transitionsWrong b) (orderWrong b)
 
   pub tables-passed : x ≡ number-of b → x ≡ 0 → tablesThen b v ≡ v
-  tables-passed = passed-by (recordsWrong b) (actionUnused b) (transitionsWrong b) (orderWrong b)
+  tables-passed =
+      passed-by b x v 5 6 7 8 (omega arith) (omega arith) (omega arith) (omega arith) (recordsWrong b) (actionUnused b) (transitionsWrong b) (orderWrong b)
+
+-- the sizes and offsets, as they are read
+pub sizes-read : (b : List ℕ) (n m t s : ℕ) → n ≡ getD b (length b - 4) 0 → m ≡ getD b (length b - 3) 0
+    → t ≡ field (length b - 8) 2 b → s ≡ field (length b - 6) 2 b → sound n m t s ≡ readingOf b accepted
+unfolding transitionsAt stepsAt
+sizes-read b n m t s p q r o = cc (components-read b, actions-read b)
 
 -- ---- the count of actions
 

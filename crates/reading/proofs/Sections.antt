@@ -1,10 +1,10 @@
 -- The tables and the steps of a sheet, read in its sections: what a checker answers of the parts that it is handed
 -- is what the refusals say of the sheet whose trailer passed.
 -- Assumes nothing.
-use mathlib.Core.Path.{_≡_, refl, sym, ap, _∙_}
+use mathlib.Core.Path.{_≡_, refl, sym, ap, ap₂, _∙_}
 use mathlib.Core.Logic.{_⊎_, inl, inr}
 use mathlib.Core.Bool.{Bool, true, false, not, _||_}
-use mathlib.Core.List.{List, map}
+use mathlib.Core.List.{List, [], _∷_, map, List·Memᴰ, List·Memᴰ·head, List·Memᴰ·tail}
 use Prim.Native.Nat.{ℕ, _+_, _-_, _*_, _/_, _≤_, _<_}
 use native.Mathlib.Omega.{arith}
 use lib.Dec.{leb}
@@ -12,14 +12,24 @@ use lib.ListN.{length, take, drop, length-take, length-drop}
 use Rattle.sets.specs.Lists.{some, below}
 use Rattle.sets.specs.Bits.{member}
 use Rattle.sets.proofs.Bools.{true-or-false, leb-false}
+use Rattle.sets.proofs.Lists.{mem-below}
 use Rattle.systems.specs.Tables.{Transition, Tables}
 use Rattle.sheet.specs.Numbers.{number, field, parts}
 use Rattle.sheet.specs.Layout.{transitionsAt, stepsAt, componentCount, actionCount, front, statesOf, fillerOf, initialOf, alphabetOf, transitionBytes, transitionOf, tablesOf, tables, stepCount, steps}
 use Rattle.sheet.specs.Refusals.{recordWrong, recordsWrong, actionUnused, transitionWrong, transitionsWrong, risingBytes, orderWrong}
 use Rattle.sheet.specs.Sections.{sectionTables}
 use Rattle.sheet.proofs.Numbers.{drop-take, field-within, parts-part}
-use Rattle.reading.specs.Tests.{numberIf, tablesNumber}
-use Rattle.reading.proofs.Searching.{some-same, same-below}
+use Rattle.trailer.specs.Numbered.{numberIf}
+use Rattle.reading.specs.Tests.{tablesNumber}
+
+-- ---- two tests that agree
+
+pub some-same : {A : Type 0} (p q : A → Bool) (l : List A) → ((x : A) → List·Memᴰ x l → p x ≡ q x) → some p l ≡ some q l
+some-same p q [] h = refl
+some-same p q (x ∷ l) h = ap₂ _||_ (h x (List·Memᴰ·head refl)) (some-same p q l (λ y m. h y (List·Memᴰ·tail m)))
+
+pub same-below : (p q : ℕ → Bool) (n : ℕ) → ((i : ℕ) → i < n → p i ≡ q i) → some p (below n) ≡ some q (below n)
+same-below p q n h = some-same p q (below n) (λ i m. h i (mem-below n i .0 m))
 
 -- ---- a transition, in two tables with the same components below their number
 

@@ -1,6 +1,5 @@
 -- What a reader of a sheet answers: the sizes of an accepted sheet, or the refusal with its number and step index.
 -- Assumes nothing.
-use mathlib.Core.Bool.{Bool}
 use mathlib.Core.List.{List}
 use Prim.Native.Nat.{ℕ}
 use Rattle.reading.specs.declared.Reading.{Reading as Answer}

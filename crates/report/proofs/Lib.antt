@@ -1,5 +1,1 @@
-pub mod Figures
-pub mod EndArrays
-pub mod Writers
-pub mod Bounds
 pub mod Texts

@@ -3,7 +3,7 @@
 use mathlib.Core.Path.{_≡_, refl, sym, ap, ap₂, _∙_}
 use mathlib.Core.Bool.{Bool, true, false}
 use mathlib.Core.List.{List, [], _∷_, _++_, map, List·Memᴰ, List·Memᴰ·head, List·Memᴰ·tail}
-use Prim.Native.Nat.{ℕ, _+_, _-_, _≤_, _<_}
+use Prim.Native.Nat.{ℕ, _+_, _-_, _/_, _≤_, _<_}
 use native.Mathlib.Omega.{arith}
 use lib.Dec.{ltb}
 use lib.ListN.{length, take, drop, getD, length-append}
@@ -13,21 +13,24 @@ use Rattle.sets.specs.Bits.{members}
 use Rattle.sets.proofs.Bools.{ltb-true, ltb-false}
 use Rattle.sets.proofs.Lists.{mem-below}
 use Rattle.systems.specs.Checking.{flat}
-use Rattle.sheet.specs.Layout.{componentCount, stepCount, tables, steps}
+use Rattle.sheet.specs.Layout.{stepsAt, componentCount, stepCount, tables, steps}
 use Rattle.sheet.specs.Verdict.{Verdict, verdict, Accepted}
 use Rattle.sheet.proofs.RoundTrip.{steps-length}
 use Rattle.answers.specs.EndSets.{endSet}
 use Rattle.answers.specs.Restated.{restatedSteps}
-use Rattle.answers.specs.Report.{acceptedWord, refusedWord, endWord, line, summaryLine, stepLines, endLines, report}
+use Rattle.answers.specs.Figure.{figure}
+use Rattle.answers.specs.Stuck.{stuck}
+use Rattle.answers.specs.Report.{acceptedWord, refusedWord, endWord, line, one, summaryLine, stepLines, endLines, report}
 use Rattle.answers.proofs.Normal.{normal-actions, normal-no-longer}
 use Rattle.answers.proofs.Restated.{restated-normal, accepted-limits, accepted-order, accepted-fine}
 use Rattle.answers.proofs.Reports.{report-refused, report-accepted}
-use Rattle.desk.specs.Calls.{endArrayBy}
-use Rattle.desk.proofs.Accepting.{Admitted}
+use Rattle.printing.specs.Texts.{TextAt, stepTexts, endTexts}
+use Rattle.printing.proofs.Bounds.{line-most, steps-most, ends-most}
+use Rattle.restating.specs.Known.{PackedSteps}
+use Rattle.measures.specs.Ends.{EndsKnown}
+use Rattle.measures.proofs.EndArrays.{set-at}
 use Rattle.report.specs.declared.Printed.the-variants.{Text, TooShort}
-use Rattle.report.specs.Printouts.{PackedSteps, Wrote, stepTexts, endTexts, summaryOf, unlessShort, printedOf, outputUnless, outputOf}
-use Rattle.report.proofs.EndArrays.{set-at}
-use Rattle.report.proofs.Bounds.{line-most, steps-most, ends-most}
+use Rattle.report.specs.Printouts.{summaryOf, unlessShort, printedOf, outputUnless, outputOf}
 
 -- ---- the lines of an accepted sheet
 
@@ -43,19 +46,26 @@ summary-line : (b : List ℕ) → line acceptedWord (summaryOf b) ≡ summaryLin
 unfolding summaryLine
 summary-line b = refl
 
-module _ (b : List ℕ) (n m t s : ℕ) (r : Admitted b n m t s) (sets : List ℕ) (e : sets ≡ endArrayBy (verdict b) b) where
+pub summary-told : (b : List ℕ) (s steps count fig st : ℕ) → s ≡ stepsAt b → steps ≡ (length b - 10 - s) / 8 → count ≡ length (restatedSteps b)
+    → fig ≡ figure b → st ≡ one (stuck b) → _≡_ {A = List ℕ} (steps ∷ count ∷ fig ∷ st ∷ []) (summaryOf b)
+unfolding stepCount
+summary-told b s steps count fig st at p q u v =
+    let e : steps ≡ stepCount b = p ∙ ap (λ (x : ℕ). (length b - 10 - x) / 8) at in
+    ap₂ _∷_ e (ap₂ _∷_ q (ap₂ _∷_ u (ap (λ (x : ℕ). x ∷ []) v)))
+
+module _ {b : List ℕ} {n m s : ℕ} {sets : List ℕ} (r : EndsKnown b n m s sets) where
   ends-told : endTexts sets (below n) ≡ endLines b
   unfolding endLines
   ends-told =
       texts-same (λ j. line endWord (j ∷ members (getD sets j 0))) (λ j. line endWord (j ∷ members (endSet b j))) (below n)
-      (λ j i. ap (λ (x : ℕ). line endWord (j ∷ members x)) (set-at b n m t s r sets e j (mem-below n j .0 i)))
-      ∙ ap (λ (k : ℕ). concat (map (λ j. line endWord (j ∷ members (endSet b j))) (below k))) (r .n-read)
+      (λ j i. ap (λ (x : ℕ). line endWord (j ∷ members x)) (set-at r j (mem-below n j .0 i)))
+      ∙ ap (λ (k : ℕ). concat (map (λ j. line endWord (j ∷ members (endSet b j))) (below k))) (r .known .n-read)
 
   pub accepted-text : (numbers packed : List ℕ) (count : ℕ) → numbers ≡ summaryOf b → PackedSteps b packed count
       → line acceptedWord numbers ++ (stepTexts (take count packed) ++ endTexts sets (below n)) ≡ report b
   accepted-text numbers packed count q p =
       ap₂ _++_ (ap (line acceptedWord) q ∙ summary-line b) (ap₂ _++_ (steps-told b packed count p) ends-told)
-      ∙ sym (report-accepted b (r .sheet-accepted))
+      ∙ sym (report-accepted b (r .known .sheet-accepted))
 
 -- ---- the length of a report
 
@@ -106,16 +116,16 @@ report-short b = go (verdict b) refl
         omega arith
 
 -- the room that the lines of an accepted sheet and that of a refusal take
-pub accepted-room : (b : List ℕ) (n m t s : ℕ) (r : Admitted b n m t s) (sets : List ℕ) (e : sets ≡ endArrayBy (verdict b) b)
-    (numbers packed : List ℕ) (count : ℕ) → numbers ≡ summaryOf b → PackedSteps b packed count → (size : ℕ) → 16384 ≤ size
+pub accepted-room : {b : List ℕ} {n m s : ℕ} {sets : List ℕ} → EndsKnown b n m s sets → (numbers packed : List ℕ) (count : ℕ)
+    → numbers ≡ summaryOf b → PackedSteps b packed count → (size : ℕ) → 16384 ≤ size
     → 0 + length (line acceptedWord numbers ++ (stepTexts (take count packed) ++ endTexts sets (below n))) ≤ size
-accepted-room b n m t s r sets e numbers packed count q p size h =
-    let x = ap length (accepted-text b n m t s r sets e numbers packed count q p) in
+accepted-room {b = b} r numbers packed count q p size h =
+    let x = ap length (accepted-text r numbers packed count q p) in
     let y = report-short b in
     omega arith
 
-pub refused-room : (k i size : ℕ) → 16384 ≤ size → 0 + length (line refusedWord (k ∷ i ∷ [])) ≤ size
-refused-room k i size h = let m = line-most refusedWord (k ∷ i ∷ []) in omega arith
+pub refused-room : (numbers : List ℕ) (k i size : ℕ) → numbers ≡ k ∷ i ∷ [] → 16384 ≤ size → 0 + length (line refusedWord numbers) ≤ size
+refused-room numbers k i size e h = let m = line-most refusedWord numbers in let l = ap length e in omega arith
 
 -- ---- what is printed
 
@@ -133,7 +143,7 @@ report-serves b out h =
     let f = ltb-false (length out) (length (report b)) .1 (omega arith) in
     (sym (printed-by b (length out) false f), sym (output-by b out false f))
 
-module _ (b : List ℕ) {x text : List ℕ} {size : ℕ} (W : Wrote (report b) x 0 text size) where
+module _ (b : List ℕ) {x text : List ℕ} {size : ℕ} (W : TextAt (report b) x 0 text size) where
   size-told : size ≡ length (report b)
   size-told = let e = W .place in omega arith
 

@@ -1,69 +1,24 @@
--- What the values of the report's calls stand for, and what their parts leave behind: the packed steps, and text in a buffer.
+-- What the values of the report stand for.
 -- Assumes nothing.
-use mathlib.Core.Path.{_≡_}
 use mathlib.Core.Bool.{Bool, true, false}
-use mathlib.Core.List.{List, [], _∷_, _++_, map}
-use Prim.Native.Nat.{ℕ, _+_, _≤_}
+use mathlib.Core.List.{List, [], _∷_, _++_}
+use Prim.Native.Nat.{ℕ}
 use lib.Dec.{ltb}
-use lib.ListN.{length, take, drop, getD}
-use Rattle.sets.specs.Lists.{concat}
-use Rattle.sets.specs.Bits.{members}
+use lib.ListN.{length, drop}
 use Rattle.sheet.specs.Layout.{stepCount}
-use Rattle.desk.proofs.Accepting.{Admitted}
-use Rattle.answers.specs.Answers.{Answer}
+use Rattle.reading.specs.declared.Reading.{Reading}
+use Rattle.reading.specs.declared.Reading.the-variants.{Accepted as readAccepted, Refused as readRefused}
 use Rattle.answers.specs.Restated.{restatedSteps}
 use Rattle.answers.specs.Figure.{figure}
 use Rattle.answers.specs.Stuck.{stuck}
-use Rattle.answers.specs.Report.{stepWord, endWord, line, one, report}
-use Rattle.report.specs.declared.Figure.{Figure}
-use Rattle.report.specs.declared.Figure.the-variants.{Value, Refused as figureRefused}
-use Rattle.report.specs.declared.Stuck.{Stuck}
-use Rattle.report.specs.declared.Stuck.the-variants.{Yes, No, Refused as stuckRefused}
+use Rattle.answers.specs.Report.{one, report}
 use Rattle.report.specs.declared.Printed.{Printed}
 use Rattle.report.specs.declared.Printed.the-variants.{Text, TooShort}
 
--- the figure, or the refusal
-abbrev pub figureOf : Figure → Answer ℕ
-figureOf (Value f) = Answer.given f
-figureOf (figureRefused k i) = Answer.refused k i
-
--- whether the sheet is stuck, or the refusal
-abbrev pub stuckOf : Stuck → Answer Bool
-stuckOf Yes = Answer.given true
-stuckOf No = Answer.given false
-stuckOf (stuckRefused k i) = Answer.refused k i
-
--- an accepted sheet with n components, whose transitions begin at t and whose steps at s
-abbrev pub Known : List ℕ → ℕ → ℕ → ℕ → Type 0
-Known b n t s = (m : ℕ) × Admitted b n m t s
-
--- an accepted sheet whose steps begin at s
-abbrev pub KnownSteps : List ℕ → ℕ → Type 0
-KnownSteps b s = (n : ℕ) × (t : ℕ) × Known b n t s
-
--- an accepted sheet with n components and m actions whose steps begin at s
-abbrev pub KnownSize : List ℕ → ℕ → ℕ → ℕ → Type 0
-KnownSize b n m s = (t : ℕ) × Admitted b n m t s
-
--- the array's first `count` entries are the restated steps of the sheet b
-pub record PackedSteps (b packed : List ℕ) (count : ℕ) : Type 0 where
-  pub size : length packed ≡ 1024
-  pub few : count ≤ 1024
-  pub sets : take count packed ≡ restatedSteps b
-
--- the text stands in the buffer from `at` on, behind what stood before it; r is the place behind it
-pub record Wrote (text before : List ℕ) (at : ℕ) (after : List ℕ) (r : ℕ) : Type 0 where
-  pub place : r ≡ at + length text
-  pub size : length after ≡ length before
-  pub written : take r after ≡ take at before ++ text
-
--- the lines of some steps
-abbrev pub stepTexts : List ℕ → List ℕ
-stepTexts xs = concat (map (λ x. line stepWord (members x)) xs)
-
--- the lines of the sets that stand in an array for the components of a list
-abbrev pub endTexts : List ℕ → List ℕ → List ℕ
-endTexts l js = concat (map (λ j. line endWord (j ∷ members (getD l j 0))) js)
+-- number and step index of a reader's refusal; an accepted sheet has none
+abbrev pub refusalNumbers : Reading → List ℕ
+refusalNumbers (readAccepted n m t s) = 0 ∷ 0 ∷ []
+refusalNumbers (readRefused k i) = k ∷ i ∷ []
 
 -- the numbers of the first line: "steps in the sheet, restated steps, figure, 1 if stuck else 0"
 abbrev pub summaryOf : List ℕ → List ℕ

@@ -7,7 +7,7 @@ use mathlib.Core.List.{List, [], _∷_, List·Memᴰ}
 use Prim.Native.Nat.{ℕ, _+_, _*_, _<_, _≤_}
 use lib.ListN.{length, getD}
 use Rattle.sets.specs.Bits.{member}
-use Rattle.systems.specs.Tables.{Transition, Tables, Fits}
+use Rattle.systems.specs.Tables.{Transition, Fits}
 use Rattle.systems.specs.Checking.{flat}
 use Rattle.sheet.specs.Layout.{recordsAt, transitionsAt, stepsAt, componentCount, actionCount, closing, mark, front, statesOf, initialOf, alphabetOf, transitionBytes, tables, steps}
 

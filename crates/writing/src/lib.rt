@@ -52,7 +52,7 @@ fn write_trailer(s: usize, n: u8, m: u8, out: &mut [u8])
     ensures { λ _. ⌜ now (out .exit) ≡ over (trailer s n m) (now (out .entry)) ⌝ }
 {
     put2(0, out);
-    put2(16 * sheet::wide(n), &mut out[2..]);
+    put2(16 * numbers::wide(n), &mut out[2..]);
     put2(s as u64, &mut out[4..]);
     write_counts(n, m, &mut out[6..]);
 }

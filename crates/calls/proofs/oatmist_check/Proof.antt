@@ -4,9 +4,8 @@ use mathlib.Core.Path.{ap, _∙_}
 use mathlib.Core.List.{List}
 use Prim.Native.Nat.{ℕ}
 use borrow.Author.Needs.{needs}
-use Rattle.sheet.specs.Verdict.{verdict}
-use Rattle.calls.specs.Told.{filled, readNumber, readValues}
-use Rattle.calls.proofs.Telling.{number-told, values-told}
+use Rattle.filling.specs.Handing.{filled}
+use Rattle.values.specs.Numbers.{readNumber, readValues}
 use Rattle.calls.proofs.oatmist_check.Statement.{statement}
 use Rattle.calls.proofs.oatmist_check.Tie as tie
 
@@ -33,11 +32,10 @@ returns c =
     let f = c .before .before .before in
     let made = f .before .before .before in
     let read = made .before .check in
-    let a = made .before .before .before .before .args in
-    let b = a .sheet .now in (
-      c .read-number .ensures ∙ ap readNumber (read .ensures) ∙ number-told b (verdict b),
+    let a = made .before .before .before .before .args in (
+      c .read-number .ensures ∙ ap readNumber (read .ensures),
       f .fill .ensures
-          ∙ ap (λ (l : List ℕ). filled l (a .answer .now)) (made .read-values .ensures ∙ ap readValues (read .ensures) ∙ values-told b (verdict b)),
+          ∙ ap (λ (l : List ℕ). filled l (a .answer .now)) (made .read-values .ensures ∙ ap readValues (read .ensures)),
     )
 
 pub oatmist-check-spec : {M : Type 1} → statement M

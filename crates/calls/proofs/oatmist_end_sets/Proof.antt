@@ -4,9 +4,8 @@ use mathlib.Core.Path.{ap, _∙_}
 use mathlib.Core.List.{List}
 use Prim.Native.Nat.{ℕ}
 use borrow.Author.Needs.{needs}
-use Rattle.sheet.specs.Verdict.{verdict}
-use Rattle.calls.specs.Told.{filled, readNumber}
-use Rattle.calls.proofs.Telling.{number-told}
+use Rattle.filling.specs.Handing.{filled}
+use Rattle.values.specs.Numbers.{readNumber}
 use Rattle.calls.proofs.oatmist_end_sets.Statement.{statement}
 use Rattle.calls.proofs.oatmist_end_sets.Tie as tie
 
@@ -29,9 +28,8 @@ returns : tie.Need-returns
 returns c =
     let f = c .before .before .before in
     let marked = f .before .before .before .before in
-    let a = marked .before .before .before .args in
-    let b = a .sheet .now in (
-      c .read-number .ensures ∙ ap readNumber (marked .end-sets .ensures .verdict-told) ∙ number-told b (verdict b),
+    let a = marked .before .before .before .args in (
+      c .read-number .ensures ∙ ap readNumber (marked .end-sets .ensures .verdict-told),
       f .fill .ensures ∙ ap (λ (l : List ℕ). filled l (a .ends .now)) (marked .end-sets .ensures .sets-told),
     )
 

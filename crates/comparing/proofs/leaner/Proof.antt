@@ -4,8 +4,8 @@ use mathlib.Core.Path.{sym, ap, _∙_}
 use mathlib.Core.List.{List}
 use Prim.Native.Nat.{ℕ}
 use native.Mathlib.Omega.{arith}
-use Rattle.comparing.specs.Pairing.{pairOf}
-use Rattle.comparing.proofs.PairRefusals.{SoundPair, sound-pair}
+use Rattle.pairs.specs.Judging.{pairOf}
+use Rattle.pairs.proofs.PairRefusals.{SoundPair, sound-pair}
 use Rattle.comparing.proofs.PairCalls.{sheet-long, no-section, section-first, section-second}
 use borrow.Author.Needs.{needs}
 use Rattle.comparing.proofs.leaner.Statement.{statement}

@@ -5,7 +5,7 @@ use native.Mathlib.Omega.{arith}
 use borrow.Author.Needs.{needs}
 use borrow.Author.Count.{below-more}
 use lib.ListN.{length}
-use Rattle.comparing.proofs.Sameness.{SameTo, apart-length, apart-at, same-all}
+use Rattle.pairs.proofs.Sameness.{SameTo, apart-length, apart-at, same-all}
 use Rattle.comparing.proofs.same_steps.Statement.{statement}
 use Rattle.comparing.proofs.same_steps.Tie as tie
 

@@ -1,26 +1,21 @@
 -- `desk::end_sets` meets its contract: the reader's refusal, the run's, or the sets after the last step.
 -- Assumes nothing.
-use mathlib.Core.Path.{_≡_, refl, sym, ap, _∙_}
+use mathlib.Core.Path.{_≡_, sym, ap, _∙_}
 use mathlib.Core.List.{List}
 use Prim.Native.Nat.{ℕ}
 use lib.Seq.{length-take-le}
-use Rattle.sheet.specs.Verdict.{Verdict, accepted, refused, ofFault, verdict}
+use Rattle.sheet.specs.Verdict.{accepted, refused, ofFault, verdict}
 use Rattle.reading.specs.Reading.{readingOf}
 use Rattle.engine.specs.declared.Ran.{Ran}
 use Rattle.engine.specs.declared.Ran.the-variants.{Done}
 use Rattle.engine.specs.Ran.{faultOf}
 use Rattle.desk.specs.Calls.{refusalOf}
-use Rattle.desk.proofs.Marking.{Passed, read-passed, read-stopped, zeros-told, run-sheet, run-verdict, ends-told, steps-end, passed-sound, section-short}
+use Rattle.desk.proofs.Marking.{Passed, read-passed, read-stopped, zeros-told, run-sheet, run-verdict, ends-told, steps-end}
+use Rattle.running.proofs.Running.{front-sound, section-short}
 use native.Mathlib.Omega.{arith}
 use borrow.Author.Needs.{needs}
 use Rattle.desk.proofs.end_sets.Statement.{statement}
 use Rattle.desk.proofs.end_sets.Tie as tie
-use Rattle.desk.proofs.end_sets.Reads as reads
-use Rattle.desk.proofs.end_sets.Lts as lts
-use Rattle.desk.proofs.first_sets.Reads as first-sets-reads
-use Rattle.desk.proofs.refusal.Reads as refusal-reads
-use Rattle.desk.proofs.run_from_start.Reads as run-from-start-reads
-use Rattle.reading.proofs.read_sheet.Reads as read-sheet-reads
 
 abbrev sheet-at : tie.After-read → List ℕ
 sheet-at c = c .before .before .before .before .args .sheet .now
@@ -77,9 +72,10 @@ part-run-from-start-end c = search needs
 
 run-from-start-requires : tie.Need-run-from-start-requires
 run-from-start-requires c κs =
-    let r = c .before .before .before in (
-      passed-sound (sheet-at r) (n-at r) (m-at r) (t-at r) (s-at r) (passed-at r),
-      section-short (sheet-at r) (n-at r) (m-at r) (t-at r) (s-at r) (passed-at r),
+    let r = c .before .before .before in
+    let P = passed-at r in (
+      front-sound (sheet-at r) (n-at r) (m-at r) (s-at r) (P .n-read) (P .m-read) (P .s-read) (P .limits),
+      section-short (sheet-at r) (s-at r) (P .s-read) (P .limits),
     )
 
 enum-told-2 : tie.Need-enum-told-2

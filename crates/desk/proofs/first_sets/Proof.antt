@@ -6,7 +6,7 @@ use native.Mathlib.Omega.{arith}
 use borrow.Author.Needs.{needs}
 use Rattle.moves.proofs.Filling.{Filled, filled-none, filled-more}
 use Rattle.desk.specs.Calls.{keptOf}
-use Rattle.desk.proofs.Running.{filled-map}
+use Rattle.desk.proofs.Arrays.{filled-map}
 use Rattle.desk.proofs.first_sets.Statement.{statement}
 use Rattle.desk.proofs.first_sets.Tie as tie
 

@@ -6,11 +6,11 @@ use Rattle.desk.specs.Calls.{notRestated}
 use Rattle.desk.proofs.not_restated.Statement.{statement}
 use Rattle.desk.proofs.not_restated.Tie as tie
 
-enum-told : tie.Need-enum-told
-enum-told c = search needs
-
 enum-known-read : tie.Need-enum-known-read
 enum-known-read c = search needs
+
+enum-told : tie.Need-enum-told
+enum-told c = search needs
 
 returns : tie.Need-returns
 returns c = search needs
@@ -19,4 +19,4 @@ returns-2 : tie.Need-returns-2
 returns-2 c = ap notRestated (sym (c .before .read .given .1))
 
 pub not-restated-spec : {M : Type 1} → statement M
-not-restated-spec = tie.close (tie.spec enum-told enum-known-read returns returns-2)
+not-restated-spec = tie.close (tie.spec enum-known-read enum-told returns returns-2)

@@ -7,7 +7,8 @@ use Prim.Native.Nat.{ℕ}
 use native.Mathlib.Omega.{arith}
 use borrow.Author.Needs.{needs}
 use Rattle.offences.specs.Offences.{offenceOf}
-use Rattle.desk.proofs.Accepting.{Admitted, admitted-check, records-long, known-section}
+use Rattle.restating.specs.Known.{Admitted}
+use Rattle.restating.proofs.Accepting.{admitted-check, records-long, known-section}
 use Rattle.desk.proofs.ProcessAnswers.{process-refused, process-given}
 use Rattle.desk.proofs.process_check.Statement.{statement}
 use Rattle.desk.proofs.process_check.Tie as tie

@@ -7,7 +7,8 @@ use Prim.Native.Nat.{ℕ}
 use native.Mathlib.Omega.{arith}
 use lib.ListN.{length-take}
 use borrow.Author.Needs.{needs}
-use Rattle.desk.proofs.Accepting.{Admitted, admitted-check, records-long, known-section, section-few}
+use Rattle.restating.specs.Known.{Admitted}
+use Rattle.restating.proofs.Accepting.{admitted-check, admitted-known}
 use Rattle.desk.proofs.RestatingAnswers.{restate-refused, restate-short, restate-written}
 use Rattle.desk.proofs.restate.Statement.{statement}
 use Rattle.desk.proofs.restate.Tie as tie
@@ -34,7 +35,7 @@ admitted-at : (c : tie.After-read) → Admitted (sheet-at c) (n-at c) (m-at c) (
 admitted-at c = admitted-check (sheet-at c) (n-at c) (m-at c) (t-at c) (s-at c) (sym (c .read .given .1) ∙ c .before .before .check .ensures)
 
 abbrev packed-read : tie.After-packed2 → tie.After-read
-packed-read c = c .before .before .before .before .before .before .before .before
+packed-read c = c .before .before .before .before
 
 check-requires : tie.Need-check-requires
 check-requires c κs = search needs
@@ -56,67 +57,27 @@ returns c =
     restate-refused (start .args .sheet .now) (start .args .out .now) (checked .result) (c .not-restated .result) (g .0 .0) (g .0 .1 .0)
     (checked .ensures) (g .1) (c .not-restated .ensures)
 
-sub-end : tie.Need-sub-end
-sub-end c = let r = admitted-at (c .before) in omega arith
+slice-aggregate-pack-sheet : tie.Need-slice-aggregate-pack-sheet
+slice-aggregate-pack-sheet c = search needs
 
-sub-alphabets : tie.Need-sub-alphabets
-sub-alphabets c = search needs
-
-part-alphabets-start : tie.Need-part-alphabets-start
-part-alphabets-start c = search needs
-
-part-alphabets-end : tie.Need-part-alphabets-end
-part-alphabets-end c = let r = admitted-at (c .before) in omega arith
-
-alphabets-requires : tie.Need-alphabets-requires
-alphabets-requires c κs =
-    let k = c .before .before in
-    let r = admitted-at k in
-    (omega arith, records-long (sheet-at k) (n-at k) (m-at k) (t-at k) (s-at k) r)
-
-sub-pack : tie.Need-sub-pack
-sub-pack c = let r = admitted-at (c .before .before .before) in omega arith
-
-part-pack-start : tie.Need-part-pack-start
-part-pack-start c = let r = admitted-at (c .before .before .before) in omega arith
-
-part-pack-end : tie.Need-part-pack-end
-part-pack-end c = search needs
-
-slice-aggregate-pack : tie.Need-slice-aggregate-pack
-slice-aggregate-pack c = search needs
-
-slice-aggregate-pack-2 : tie.Need-slice-aggregate-pack-2
-slice-aggregate-pack-2 c = search needs
-
-pack-requires : tie.Need-pack-requires
-pack-requires c κs =
-    let k = c .before .before .before .before .before .before in
-    let read = c .before .before .before .alphabets in
-    let r = admitted-at k in (
-      r .n-high,
-      read .ensures .size,
-      refl,
-      section-few (sheet-at k) (n-at k) (m-at k) (t-at k) (s-at k) r,
-      known-section (sheet-at k) (n-at k) (m-at k) (t-at k) (s-at k) r (read .result) (read .ensures),
-    )
+pack-sheet-requires : tie.Need-pack-sheet-requires
+pack-sheet-requires c κs = (admitted-known (admitted-at (c .before .before)), refl)
 
 mul-size : tie.Need-mul-size
 mul-size c = search needs
 
 add-size : tie.Need-add-size
-add-size c = let r = admitted-at (packed-read c) in let f = c .before .pack .ensures .few in omega arith
+add-size c = let r = admitted-at (packed-read c) in let f = c .before .pack-sheet .ensures .few in omega arith
 
 add-size-2 : tie.Need-add-size-2
-add-size-2 c = let r = admitted-at (packed-read c) in let f = c .before .pack .ensures .few in omega arith
+add-size-2 c = let r = admitted-at (packed-read c) in let f = c .before .pack-sheet .ensures .few in omega arith
 
 returns-2 : tie.Need-returns-2
 returns-2 c =
     let d = c .before in
     let k = packed-read d in
-    let read = d .before .before .before .before .before .alphabets in
-    let made = d .before .pack in
-    restate-short (sheet-at k) (n-at k) (m-at k) (t-at k) (s-at k) (admitted-at k) (read .result) (read .ensures) (made .last .1 .1 .1 .0) (made .result)
+    let made = d .before .pack-sheet in
+    restate-short (sheet-at k) (n-at k) (m-at k) (t-at k) (s-at k) (admitted-at k) (made .last .1 .1 .1 .0) (made .result)
     (made .ensures) (out-at k) (c .if1 .taken)
 
 slice-aggregate-write-sheet : tie.Need-slice-aggregate-write-sheet
@@ -135,9 +96,9 @@ write-sheet-requires : tie.Need-write-sheet-requires
 write-sheet-requires c κs =
     let d = c .before .before .before .before in
     let r = admitted-at (packed-read d) in
-    let f = d .before .pack .ensures .few in
+    let f = d .before .pack-sheet .ensures .few in
     let left = c .before .before .before .if1 .left in
-    let kept = d .before .pack .kept .1 .1 .1 .0 in
+    let kept = d .before .pack-sheet .kept .1 .1 .1 .0 in
     (simp length-take (omega arith), omega arith, omega arith, simp length-take (omega arith))
 
 same-length : tie.Need-same-length
@@ -148,9 +109,8 @@ returns-3 c =
     let w = c .before .before in
     let d = w .before .before .before .before .before in
     let k = packed-read d in
-    let read = d .before .before .before .before .before .alphabets in
-    let made = d .before .pack in
-    restate-written (sheet-at k) (n-at k) (m-at k) (t-at k) (s-at k) (admitted-at k) (read .result) (read .ensures) (made .last .1 .1 .1 .0) (made .result)
+    let made = d .before .pack-sheet in
+    restate-written (sheet-at k) (n-at k) (m-at k) (t-at k) (s-at k) (admitted-at k) (made .last .1 .1 .1 .0) (made .result)
     (made .ensures) (out-at k) (w .write-sheet .last .1 .1 .1 .1 .1 .0) (w .before .before .before .before .if1 .left) (w .write-sheet .ensures)
 
 pub restate-spec : {M : Type 1} → statement M
@@ -162,17 +122,8 @@ restate-spec =
     enum-told
     not-restated-requires
     returns
-    sub-end
-    sub-alphabets
-    part-alphabets-start
-    part-alphabets-end
-    alphabets-requires
-    sub-pack
-    part-pack-start
-    part-pack-end
-    slice-aggregate-pack
-    slice-aggregate-pack-2
-    pack-requires
+    slice-aggregate-pack-sheet
+    pack-sheet-requires
     mul-size
     add-size
     add-size-2

@@ -1,70 +1,67 @@
--- `packing::mark` meets its contract. The loop's invariant: the entries below j are marked, and the others as they were.
--- Assumes nothing.
-use mathlib.Core.Path.{_≡_, refl, _∙_, subst}
-use Prim.Native.Nat.{ℕ, _+_, _-_, _≤_}
+-- `packing::mark` meets its contract. The loop's invariant: once the components that are left have been marked, all have.
+-- The measure is the set that is left, which falls. Assumes nothing.
+use mathlib.Core.Path.{_≡_, sym, ap, _∙_}
+use mathlib.Core.List.{List, _∷_}
+use Prim.Native.Nat.{ℕ, _^_, _<_}
 use native.Mathlib.Omega.{arith}
 use lib.ListN.{length, length-set}
 use borrow.Author.Needs.{needs}
+use Rattle.sets.specs.Bits.{members}
 use Rattle.packing.specs.Levels.{Marked}
-use Rattle.packing.proofs.Showing.{Marking, marking-none, marking-more}
+use Rattle.packing.proofs.Showing.{first-below, marked-none, marked-more}
 use Rattle.packing.proofs.mark.Statement.{statement}
 use Rattle.packing.proofs.mark.Tie as tie
 
 abbrev Inv-loop : tie.InvT-loop
-Inv-loop alphabets n a level last₀ j₀ last j = (j ≤ n) × (length last ≡ length last₀) × Marking alphabets a level last₀ last j
+Inv-loop mine level last₀ left₀ last left =
+    (left < 2 ^ 16) × (length last ≡ 16) × ((after : List ℕ) → Marked left level last after → Marked mine level last₀ after)
 
 abbrev μ-loop : tie.MeasureT-loop
-μ-loop alphabets n a level last₀ j₀ last j = n - j
+μ-loop mine level last₀ left₀ last left = left
 
 loop-holds : tie.Need-loop-holds Inv-loop μ-loop
-loop-holds c = (search needs, refl, marking-none _ _ _ _)
+loop-holds c = (c .before .pre .0, c .before .pre .2, λ after M. M)
 
-mul-marked : tie.Need-mul-marked Inv-loop μ-loop
-mul-marked c = search needs
+add-last : tie.Need-add-last Inv-loop μ-loop
+add-last c = search needs
 
-shared-slice-read-marked : tie.Need-shared-slice-read-marked Inv-loop μ-loop
-shared-slice-read-marked c = search needs
+lowest-requires : tie.Need-lowest-requires Inv-loop μ-loop
+lowest-requires c κs = search needs
 
-mul-marked-2 : tie.Need-mul-marked-2 Inv-loop μ-loop
-mul-marked-2 c = search needs
-
-slice-read-marked : tie.Need-slice-read-marked Inv-loop μ-loop
-slice-read-marked c = search needs
-
-marked-requires : tie.Need-marked-requires Inv-loop μ-loop
-marked-requires c κs = search needs
+cast-last : tie.Need-cast-last Inv-loop μ-loop
+cast-last c = search needs
 
 mul-last : tie.Need-mul-last Inv-loop μ-loop
 mul-last c = search needs
 
 slice-write-last : tie.Need-slice-write-last Inv-loop μ-loop
-slice-write-last c = search needs
+slice-write-last c =
+    let turn = c .before .before .loop in
+    omega (arith, first-below (turn .left) (c .lowest .result) _ (turn .inv .0) (c .lowest .ensures .1))
 
-add-j : tie.Need-add-j Inv-loop μ-loop
-add-j c = search needs
+without-lowest-requires : tie.Need-without-lowest-requires Inv-loop μ-loop
+without-lowest-requires c κs = search needs
 
 loop-less : tie.Need-loop-less Inv-loop μ-loop
 loop-less c = search needs
 
 loop-again : tie.Need-loop-again Inv-loop μ-loop
 loop-again c =
-    let start = c .before .before .before .before .before .before .before .args in
-    let turn = c .before .before .before .before .loop in (
+    let turn = c .before .before .before .loop in
+    let level = c .before .before .before .before .before .args .level in
+    let first = c .before .lowest in
+    let fits = first-below (turn .left) (first .result) _ (turn .inv .0) (first .ensures .1) in (
       omega arith,
-      length-set (turn .last) (turn .j) (c .marked .result) ∙ turn .inv .1,
-      marking-more (start .alphabets .now) (start .a) (start .level) (start .last .now) (turn .last) (turn .j) (turn .j + 1) (c .marked .result)
-          refl (omega arith) (c .marked .ensures) (turn .inv .2),
+      length-set (turn .last) (first .result) _ ∙ turn .inv .1,
+      λ after M. turn .inv .2 after (marked-more (turn .left) (first .result) (c .without-lowest .result) level (turn .last) after (omega arith)
+          (first .ensures .1 ∙ ap (λ (x : ℕ). first .result ∷ members x) (sym (c .without-lowest .ensures .0))) M),
     )
 
 same-length : tie.Need-same-length Inv-loop μ-loop
 same-length c = search needs
 
 returns : tie.Need-returns Inv-loop μ-loop
-returns c =
-    let start = c .before .before .before .before .args in
-    let turn = c .before .loop in
-    let all : turn .j ≡ start .n = omega arith in
-    subst (λ (k : ℕ). Marked (start .alphabets .now) k (start .a) (start .level) (start .last .now) (turn .last)) all (turn .inv .2 .done)
+returns c = c .before .loop .inv .2 _ (marked-none _ _ _ (c .loop-test .left))
 
 pub mark-spec : {M : Type 1} → statement M
 mark-spec =
@@ -73,14 +70,12 @@ mark-spec =
     Inv-loop
     μ-loop
     loop-holds
-    mul-marked
-    shared-slice-read-marked
-    mul-marked-2
-    slice-read-marked
-    marked-requires
+    add-last
+    lowest-requires
+    cast-last
     mul-last
     slice-write-last
-    add-j
+    without-lowest-requires
     loop-less
     loop-again
     same-length

@@ -8,7 +8,8 @@ use native.Mathlib.Omega.{arith}
 use borrow.Author.Needs.{needs}
 use lib.ListN.{length}
 use Rattle.sheet.specs.Numbers.{parts}
-use Rattle.reading.proofs.Parts.{counted, actionsFrom, parts-first, parts-none, actions-more}
+use Rattle.transitions.proofs.Parts.{parts-first, parts-none}
+use Rattle.reading.proofs.Steps.{counted, actionsFrom, actions-more}
 use Rattle.reading.proofs.actions_in.Statement.{statement}
 use Rattle.reading.proofs.actions_in.Tie as tie
 

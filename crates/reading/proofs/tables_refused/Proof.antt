@@ -12,9 +12,11 @@ use Rattle.sheet.specs.Numbers.{parts}
 use Rattle.sheet.specs.Layout.{alphabetOf}
 use Rattle.sheet.specs.Refusals.{recordWrong, transitionWrong, risingBytes}
 use Rattle.sheet.specs.Sections.{sectionTables, Alphabets}
-use Rattle.reading.specs.Tests.{unusedIn, misfit, numberIf, tablesNumber}
-use Rattle.reading.proofs.Searching.{some-same, same-below}
-use Rattle.reading.proofs.Sections.{wrong-same}
+use Rattle.trailer.specs.Numbered.{numberIf}
+use Rattle.records.specs.Alphabets.{unusedIn}
+use Rattle.transitions.specs.Fitting.{misfit}
+use Rattle.reading.specs.Tests.{tablesNumber}
+use Rattle.reading.proofs.Sections.{some-same, same-below, wrong-same}
 use borrow.Author.Needs.{needs}
 use Rattle.reading.proofs.tables_refused.Statement.{statement}
 use Rattle.reading.proofs.tables_refused.Tie as tie

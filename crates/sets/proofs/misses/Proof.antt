@@ -1,15 +1,15 @@
 -- `sets::misses` meets its contract: a number has an element at or above k exactly when it is at least 2 ^ k.
 -- Assumes nothing.
-use mathlib.Core.Path.{_≡_, refl, sym, ap, _∙_, subst}
+use mathlib.Core.Path.{_≡_, sym, _∙_, subst}
 use mathlib.Core.Logic.{_≢_, inl, inr}
-use mathlib.Core.Bool.{Bool, true, false, not, _||_}
-use Prim.Native.Nat.{ℕ, zero, _/_, _^_, _<_, _≤_}
-use native.Mathlib.Nat.{zero-lt-suc, div-lt-iff-lt-mul, one-mul}
+use mathlib.Core.Bool.{false, not, _||_}
+use Prim.Native.Nat.{ℕ, _/_, _^_, _<_, _≤_}
+use native.Mathlib.Nat.{div-lt-iff-lt-mul, one-mul}
 use native.Mathlib.Omega.{arith}
 use lib.Dec.{eqb, leb}
 use lib.Pow.{pow-pos}
 use borrow.Author.Needs.{needs}
-use Rattle.sets.proofs.Bools.{true-or-false, iff-bool, not-true, eqb-true, eqb-false, leb-true, leb-false}
+use Rattle.sets.proofs.Bools.{true-or-false, iff-bool, not-true, eqb-false, leb-true, leb-false}
 use Rattle.sets.proofs.misses.Statement.{statement}
 use Rattle.sets.proofs.misses.Tie as tie
 

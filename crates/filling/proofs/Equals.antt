@@ -1,0 +1,14 @@
+-- What was handed back is that of an equal answer.
+-- Assumes nothing.
+use mathlib.Core.Path.{_≡_, subst}
+use mathlib.Core.List.{List}
+use Prim.Native.Nat.{ℕ}
+use Rattle.filling.specs.declared.Told.{Told}
+use Rattle.filling.specs.declared.PairTold.{PairTold}
+use Rattle.filling.specs.Handing.{Handed, PairHanded}
+
+pub handed-as : {t u : Told} {r : ℕ} {old new : List ℕ} → t ≡ u → Handed t r old new → Handed u r old new
+handed-as {r = r} {old = old} {new = new} e h = subst (λ (x : Told). Handed x r old new) e h
+
+pub pair-handed-as : {t u : PairTold} {r : ℕ} {old new : List ℕ} → t ≡ u → PairHanded t r old new → PairHanded u r old new
+pair-handed-as {r = r} {old = old} {new = new} e h = subst (λ (x : PairTold). PairHanded x r old new) e h

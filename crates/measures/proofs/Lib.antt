@@ -1,0 +1,2 @@
+pub mod Figuring
+pub mod EndArrays

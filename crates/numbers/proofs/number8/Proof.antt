@@ -1,0 +1,36 @@
+-- `numbers::number8` meets its contract: a field of eight bytes is the first four and 2 ^ 32 times the other four. Assumes nothing.
+use mathlib.Core.Path.{_≡_}
+use Prim.Native.Nat.{_+_, _*_}
+use native.Mathlib.Omega.{arith}
+use borrow.Author.Needs.{needs}
+use Rattle.sheet.specs.Numbers.{field}
+use Rattle.sheet.proofs.Numbers.{field-split}
+use Rattle.numbers.proofs.number8.Statement.{statement}
+use Rattle.numbers.proofs.number8.Tie as tie
+
+number4-requires : tie.Need-number4-requires
+number4-requires c κs = search needs
+
+add-number4 : tie.Need-add-number4
+add-number4 c = search needs
+
+number4-requires-2 : tie.Need-number4-requires-2
+number4-requires-2 c κs = search needs
+
+mul-result : tie.Need-mul-result
+mul-result c = search needs
+
+add-result : tie.Need-add-result
+add-result c = search needs
+
+returns : tie.Need-returns
+returns c =
+    let at = c .before .before .before .args .at in
+    let b = c .before .before .before .args .s .now in
+    let whole : field at 8 b ≡ field at 4 b + 4294967296 * field (at + 4) 4 b = field-split at 4 4 b in
+    omega (arith, whole)
+
+pub number8-spec : {M : Type 1} → statement M
+number8-spec =
+    tie.close
+    (tie.spec number4-requires add-number4 number4-requires-2 mul-result add-result returns)

@@ -1,0 +1,70 @@
+-- `owners::owners_of` meets its contract. The loop's invariant: the components below j have been entered.
+-- Assumes nothing.
+use mathlib.Core.Path.{_≡_, refl, subst}
+use Prim.Native.Nat.{ℕ, _-_, _≤_}
+use native.Mathlib.Omega.{arith}
+use lib.ListN.{getD}
+use borrow.Author.Needs.{needs}
+use Rattle.owners.specs.Owners.{Owners}
+use Rattle.owners.proofs.Entering.{owners-none, owners-more}
+use Rattle.owners.proofs.owners_of.Statement.{statement}
+use Rattle.owners.proofs.owners_of.Tie as tie
+
+abbrev Inv-loop : tie.InvT-loop
+Inv-loop alphabets n found₀ j₀ found j = (j ≤ n) × Owners (λ j. getD alphabets j 0) j found
+
+abbrev μ-loop : tie.MeasureT-loop
+μ-loop alphabets n found₀ j₀ found j = n - j
+
+loop-holds : tie.Need-loop-holds Inv-loop μ-loop
+loop-holds c = (search needs, owners-none _ _ refl)
+
+mul-enter : tie.Need-mul-enter Inv-loop μ-loop
+mul-enter c = search needs
+
+shared-slice-read-enter : tie.Need-shared-slice-read-enter Inv-loop μ-loop
+shared-slice-read-enter c = search needs
+
+cast-enter : tie.Need-cast-enter Inv-loop μ-loop
+cast-enter c = search needs
+
+slice-aggregate-enter : tie.Need-slice-aggregate-enter Inv-loop μ-loop
+slice-aggregate-enter c = search needs
+
+enter-requires : tie.Need-enter-requires Inv-loop μ-loop
+enter-requires c κs = search needs
+
+add-j : tie.Need-add-j Inv-loop μ-loop
+add-j c = search needs
+
+loop-less : tie.Need-loop-less Inv-loop μ-loop
+loop-less c = search needs
+
+loop-again : tie.Need-loop-again Inv-loop μ-loop
+loop-again c =
+    let turn = c .before .before .before .before .before .loop in
+    (omega arith, owners-more _ (turn .j) _ (omega arith) (turn .found) _ (turn .inv .1) (c .before .enter .ensures))
+
+returns : tie.Need-returns Inv-loop μ-loop
+returns c =
+    let turn = c .before .loop in
+    let start = c .before .before .before .args in
+    let all : turn .j ≡ start .n = omega arith in
+    subst (λ (k : ℕ). Owners (λ j. getD (start .alphabets .now) j 0) k (turn .found)) all (turn .inv .1)
+
+pub owners-of-spec : {M : Type 1} → statement M
+owners-of-spec =
+    tie.close
+    (tie.spec
+    Inv-loop
+    μ-loop
+    loop-holds
+    mul-enter
+    shared-slice-read-enter
+    cast-enter
+    slice-aggregate-enter
+    enter-requires
+    add-j
+    loop-less
+    loop-again
+    returns)

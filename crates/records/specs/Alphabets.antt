@@ -1,0 +1,18 @@
+-- The actions that some of the alphabets in a list have.
+-- Assumes nothing.
+use mathlib.Core.Path.{_≡_}
+use mathlib.Core.Logic.{_↔_}
+use mathlib.Core.Bool.{Bool, true, not}
+use mathlib.Core.List.{List}
+use Prim.Native.Nat.{ℕ}
+use lib.ListN.{getD}
+use Rattle.sets.specs.Lists.{some, below}
+use Rattle.sets.specs.Bits.{member}
+
+-- the set has just what the first n sets of the list have
+pub record UsedBy (l : List ℕ) (n all : ℕ) : Type 0 where
+  pub exact : (a : ℕ) → (member all a ≡ true) ↔ (some (λ j. member (getD l j 0) a) (below n) ≡ true)
+
+-- some action below m is in none of the n alphabets of the list
+abbrev pub unusedIn : List ℕ → ℕ → ℕ → Bool
+unusedIn l n m = some (λ a. not (some (λ j. member (getD l j 0) a) (below n))) (below m)

@@ -1,0 +1,15 @@
+-- `trailer::length_wrong` meets its contract. Assumes nothing.
+use Rattle.sheet.specs.Refusals.{lengthWrong}
+use borrow.Author.Needs.{needs}
+use Rattle.trailer.proofs.length_wrong.Statement.{statement}
+use Rattle.trailer.proofs.length_wrong.Tie as tie
+
+beyond-requires : tie.Need-beyond-requires
+beyond-requires c κs = search needs
+
+returns : tie.Need-returns
+unfolding lengthWrong
+returns c = c .beyond .ensures
+
+pub length-wrong-spec : {M : Type 1} → statement M
+length-wrong-spec = tie.close (tie.spec beyond-requires returns)

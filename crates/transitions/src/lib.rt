@@ -1,0 +1,90 @@
+// Refusals 7 and 8: the transition section of a sheet, handed over as a part of it.
+ghost use mathlib.Core.Path.{_≡_};
+ghost use mathlib.Core.Bool.{not, _||_};
+ghost use mathlib.Core.List.{map};
+ghost use Prim.Native.Nat.{_+_, _*_, _/_, _≤_, _<_};
+ghost use lib.Dec.{eqb};
+ghost use lib.ListN.{length, take, drop, getD};
+ghost use Rattle.sets.specs.Lists.{some};
+ghost use Rattle.sets.specs.Bits.{member};
+ghost use Rattle.sheet.specs.Numbers.{parts};
+ghost use Rattle.sheet.specs.Layout.{statesOf, transitionOf};
+ghost use Rattle.sheet.specs.Refusals.{risingBytes};
+ghost use Rattle.transitions.specs.Fitting.{misfit, heavyFirst};
+
+// Whether a label is neither that of an internal move nor in the alphabet.
+fn label_wrong(alphabet: u64, label: u8) -> bool
+    ensures { λ r. ⌜ r ≡ not (eqb label 255 || member alphabet label) ⌝ }
+{
+    if 64 <= label {
+        return label != 255;
+    }
+    !sets::has(alphabet, label as u32)
+}
+
+// 7, of the transition with index k of a transition section.
+fn transition_wrong(section: &[u8], k: usize, records: &[u8], alphabets: &[u64], n: usize) -> bool
+    requires { ⌜ (4 * k + 4 ≤ length (now section)) × (16 * n ≤ length (now records)) × (n ≤ length (now alphabets)) × (n ≤ 16) ⌝ }
+    ensures { λ r. ⌜ r
+        ≡ misfit (statesOf (now (records .entry))) (now (alphabets .entry)) n
+        (transitionOf (take 4 (drop (4 * k) (now (section .entry))))) ⌝ }
+{
+    let at = 4 * k;
+    let component = section[at] as usize;
+    if n <= component {
+        return true;
+    }
+    let states = records[16 * component];
+    (states <= section[at + 1])
+        | (states <= section[at + 3])
+        | label_wrong(alphabets[component], section[at + 2])
+}
+
+// 7: whether some transition of the section does not fit its component.
+pub fn transitions_wrong(section: &[u8], records: &[u8], alphabets: &[u64], n: usize) -> bool
+    requires { ⌜ (16 * n ≤ length (now records)) × (n ≤ length (now alphabets)) × (n ≤ 16) ⌝ }
+    ensures { λ r. ⌜ r
+        ≡ some (misfit (statesOf (now (records .entry))) (now (alphabets .entry)) n)
+        (map transitionOf (parts 4 (length (now (section .entry)) / 4) (now (section .entry)))) ⌝ }
+{
+    let count = section.len() / 4;
+    let mut k = 0;
+    while k < count {
+        if transition_wrong(section, k, records, alphabets, n) {
+            return true;
+        }
+        k += 1;
+    }
+    false
+}
+
+// The two bytes at `at` as one number, the first byte heaviest.
+fn pair(s: &[u8], at: usize) -> u64
+    requires { ⌜ at + 2 ≤ length (now s) ⌝ }
+    ensures { λ r. ⌜ (r ≡ 256 * getD (now (s .entry)) at 0 + getD (now (s .entry)) (at + 1) 0) × (r < 65536) ⌝ }
+{
+    256 * numbers::wide(s[at]) + numbers::wide(s[at + 1])
+}
+
+// The four bytes at `at` as one number, the first byte heaviest: byte strings of four rise as these numbers do.
+fn key(s: &[u8], at: usize) -> u64
+    requires { ⌜ at + 4 ≤ length (now s) ⌝ }
+    ensures { λ r. ⌜ r ≡ heavyFirst (take 4 (drop at (now (s .entry)))) ⌝ }
+{
+    65536 * pair(s, at) + pair(s, at + 2)
+}
+
+// 8: whether the transitions of the section do not rise strictly.
+pub fn order_wrong(section: &[u8]) -> bool
+    ensures { λ r. ⌜ r ≡ not (risingBytes (parts 4 (length (now (section .entry)) / 4) (now (section .entry)))) ⌝ }
+{
+    let count = section.len() / 4;
+    let mut k = 1;
+    while k < count {
+        if key(section, 4 * k) <= key(section, 4 * k - 4) {
+            return true;
+        }
+        k += 1;
+    }
+    false
+}
