@@ -14,34 +14,34 @@ ghost use Rattle.answers.specs.Stuck.{stuck};
 ghost use Rattle.answers.specs.Report.{one};
 ghost use Rattle.desk.specs.Calls.{endArrayBy};
 ghost use Rattle.report.specs.Printouts.{printedOf, outputOf};
-ghost use Rattle.filling.specs.Handing.{filled, Handed, PairHanded};
-ghost use Rattle.values.specs.Numbers.{readNumber, readValues, processTold, answerTold, pairTold, printedTold, itself};
+ghost use Rattle.filling.specs.Handing.{filled, itself, Handed, PairHanded, ReadHanded};
+ghost use Rattle.values.specs.Numbers.{processTold, answerTold, printedTold};
+ghost use Rattle.pair_calls.specs.Numbers.{pairTold};
+ghost use Rattle.verdict_values.specs.Numbers.{readTold};
 
 // The verdict: 0 for an accepted sheet, and `answer` becomes 0, n, m, T, S; else the refusal's number, and `answer` becomes its step
 // index and four zeros.
 #[no_mangle]
 pub extern "C" fn oatmist_check(sheet: &[u8], answer: &mut [u64]) -> u64
-    ensures { λ r. ⌜ (r ≡ readNumber (readingOf (now (sheet .entry)) (verdict (now (sheet .entry)))))
-        × (now (answer .exit) ≡ filled (readValues (readingOf (now (sheet .entry)) (verdict (now (sheet .entry))))) (now (answer .entry))) ⌝ }
+    ensures { λ r. ⌜ ReadHanded (readTold (readingOf (now (sheet .entry)) (verdict (now (sheet .entry))))) r (now (answer .entry)) (now (answer .exit)) ⌝ }
 {
     let read = desk::check(sheet);
-    let values = values::read_values(read);
-    filling::fill(&values, answer);
-    values::read_number(read)
+    filling::hand_read(verdict_values::read_told(read), answer)
 }
 
 // The end sets: the number as above, and `ends` becomes the end sets of 16 components, 0 for those that the sheet does not have and
 // for a refused sheet.
 #[no_mangle]
 pub extern "C" fn oatmist_end_sets(sheet: &[u8], ends: &mut [u64]) -> u64
-    ensures { λ r. ⌜ (r ≡ readNumber (readingOf (now (sheet .entry)) (verdict (now (sheet .entry)))))
+    ensures { λ r. ⌜ (r ≡ readTold (readingOf (now (sheet .entry)) (verdict (now (sheet .entry)))) .number)
         × (now (ends .exit) ≡ filled (endArrayBy (verdict (now (sheet .entry))) (now (sheet .entry))) (now (ends .entry))) ⌝ }
 {
     let marked = desk::end_sets(sheet);
     let sets = marked.sets;
     filling::fill(&sets, ends);
     let read = marked.reading;
-    values::read_number(read)
+    let told = verdict_values::read_told(read);
+    told.number
 }
 
 // The process check: 0, and `answer` becomes 0 for yes or one past the index of the first step that offends; else the refusal's number,
@@ -61,7 +61,7 @@ pub extern "C" fn oatmist_restate(sheet: &[u8], out: &mut [u8], answer: &mut [u6
     ensures { λ r. ⌜ (now (out .exit) ≡ outputAfter (now (sheet .entry)) (now (out .entry)))
         × Handed (answerTold itself (restating (now (sheet .entry)) (length (now (out .entry))))) r (now (answer .entry)) (now (answer .exit)) ⌝ }
 {
-    let told = desk::restate(sheet, out);
+    let told = rewriting::restate(sheet, out);
     filling::hand(values::restated_told(told), answer)
 }
 
@@ -71,8 +71,7 @@ pub extern "C" fn oatmist_restate(sheet: &[u8], out: &mut [u8], answer: &mut [u6
 pub extern "C" fn oatmist_same_work(first: &[u8], second: &[u8], answer: &mut [u64]) -> u64
     ensures { λ r. ⌜ PairHanded (pairTold one (sameWork (now (first .entry)) (now (second .entry)))) r (now (answer .entry)) (now (answer .exit)) ⌝ }
 {
-    let told = comparing::same_work(first, second);
-    filling::hand_pair(values::work_told(told), answer)
+    pair_calls::same_work(first, second, answer)
 }
 
 // Which sheet is leaner: 0, and `answer` becomes 0 for the first or 1 for the second, and 0; else the number of the pair's refusal, and
@@ -81,8 +80,7 @@ pub extern "C" fn oatmist_same_work(first: &[u8], second: &[u8], answer: &mut [u
 pub extern "C" fn oatmist_winner(first: &[u8], second: &[u8], answer: &mut [u64]) -> u64
     ensures { λ r. ⌜ PairHanded (pairTold itself (winner (now (first .entry)) (now (second .entry)))) r (now (answer .entry)) (now (answer .exit)) ⌝ }
 {
-    let told = comparing::winner(first, second);
-    filling::hand_pair(values::lean_told(told), answer)
+    pair_calls::winner(first, second, answer)
 }
 
 // The leaner answer: `part` becomes the step section of the leaner sheet, in the caller's own bytes; an empty part for a refused pair.
@@ -90,7 +88,7 @@ pub extern "C" fn oatmist_winner(first: &[u8], second: &[u8], answer: &mut [u64]
 pub extern "C" fn oatmist_leaner<'a>(first: &'a [u8], second: &'a [u8], part: &mut &'a [u8])
     ensures { λ _. ⌜ now (now (part .exit)) ≡ leaner (now (first .entry)) (now (second .entry)) ⌝ }
 {
-    *part = comparing::leaner(first, second);
+    pair_calls::leaner(first, second, part);
 }
 
 // The concurrency figure: 0, and `answer` becomes the figure; else the refusal's number, and `answer` becomes its step index.

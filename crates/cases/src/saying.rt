@@ -2,25 +2,23 @@
 use comparing::Lean;
 use comparing::Work;
 use desk::Process;
-use desk::Restated;
-use report::Printed;
+use rewriting::Restated;
 
 // Prints bytes.
 pub fn say(text: &[u8]) {
     io::write_all(1, text);
 }
 
-// Prints a word, a space and a number in decimal.
-fn say_with(word: &[u8], x: u64) {
-    say(word);
-    say(b" ");
+// Prints bytes and a number in decimal.
+fn say_with(text: &[u8], x: u64) {
+    say(text);
     io::print_decimal(1, x);
 }
 
 // Prints a refusal.
 fn say_refused(number: u64, index: usize) {
-    say_with(b"refused", number);
-    say_with(b"", index as u64);
+    say_with(b"refused ", number);
+    say_with(b" ", index as u64);
 }
 
 // The bytes from one place to another, or none where there are no such places.
@@ -33,18 +31,6 @@ pub fn part(s: &[u8], from: usize, to: usize) -> &[u8] {
     &s[0..0]
 }
 
-// The first place at or behind `from` where a byte stands, or the length where it does not.
-pub fn find(s: &[u8], from: usize, byte: u8) -> usize {
-    let mut i = from;
-    while i < s.len() {
-        if s[i] == byte {
-            return i;
-        }
-        i += 1;
-    }
-    s.len()
-}
-
 // Prints bytes as hexadecimal digits, two for each.
 fn say_hex(s: &[u8]) {
     let mut i = 0;
@@ -54,31 +40,12 @@ fn say_hex(s: &[u8]) {
     }
 }
 
-// Prints the first line of a text.
-fn say_line(text: &[u8]) {
-    say(part(text, 0, find(text, 0, 10)));
-}
-
-// The verdict: the first line of what the program prints.
-fn say_verdict(sheet: &[u8], text: &mut [u8]) {
-    report::report(sheet, text);
-    say_line(text);
-}
-
-// Prints the first `size` bytes of a text but the last of them.
-fn say_all(text: &[u8], size: usize) {
-    if 0 < size {
-        say(part(text, 0, size - 1));
-    }
-}
-
-// All that the program prints, but its last line feed.
-fn say_report(sheet: &[u8], text: &mut [u8]) {
-    let printed = report::report(sheet, text);
-    let Printed::Text(size) = printed else {
-        return;
-    };
-    say_all(text, size);
+// What the program prints, up to the first byte of this value: a line feed for the verdict, 0 for all.
+fn say_report(sheet: &[u8], until: u8) {
+    let mut text = io::large_buffer();
+    report::report(sheet, &mut text);
+    let end = bytes::scan::find(&text, 0, text.len(), until);
+    say(part(&text, 0, end));
 }
 
 // How many bytes are 170, which stands in no restated sheet of the cases.
@@ -97,35 +64,23 @@ fn kept(out: &[u8]) -> usize {
 // What restating answered.
 fn say_restated(made: Restated) {
     match made {
-        Restated::Written(size) => say_with(b"written", size as u64),
+        Restated::Written(size) => say_with(b"written ", size as u64),
         Restated::Refused { number, index } => say_refused(number, index),
     }
 }
 
-// The first `room` bytes of an output, or all of it where there are fewer.
-fn front(out: &mut [u8], room: usize) -> &mut [u8] {
+// Restating into the first `room` bytes of an output, and how many of all its bytes are still 170.
+fn say_fit(sheet: &[u8], out: &mut [u8], room: usize) {
     if room <= out.len() {
-        return &mut out[..room];
+        let made = rewriting::restate(sheet, &mut out[..room]);
+        say_restated(made);
+        say_with(b", kept ", kept(out) as u64);
     }
-    out
-}
-
-// Restating into the first `room` bytes of the output.
-fn say_room(sheet: &[u8], out: &mut [u8], room: usize) {
-    let made = desk::restate(sheet, front(out, room));
-    say_restated(made);
-}
-
-// Restating into the first `room` bytes of an output of 128, and how many of them all kept their value.
-fn say_fit(sheet: &[u8], room: usize) {
-    let mut out = [170u8; 128];
-    say_room(sheet, &mut out, room);
-    say_with(b", kept", kept(&out) as u64);
 }
 
 // The bytes of the output from one place to another, after restating.
 fn say_bytes(sheet: &[u8], out: &mut [u8], from: usize, to: usize) {
-    desk::restate(sheet, out);
+    rewriting::restate(sheet, out);
     say_hex(part(out, from, to));
 }
 
@@ -133,7 +88,7 @@ fn say_bytes(sheet: &[u8], out: &mut [u8], from: usize, to: usize) {
 fn say_process(answer: Process) {
     match answer {
         Process::Yes => say(b"yes"),
-        Process::Offends(index) => say_with(b"offends", index as u64),
+        Process::Offends(index) => say_with(b"offends ", index as u64),
         Process::Refused { number, index } => say_refused(number, index),
     }
 }
@@ -141,7 +96,7 @@ fn say_process(answer: Process) {
 // Prints the refusal of a pair, with the sheet that it is of.
 fn say_refused_of(number: u64, index: usize, sheet: u64) {
     say_refused(number, index);
-    say_with(b"", sheet);
+    say_with(b" ", sheet);
 }
 
 // Whether two sheets do the same work.
@@ -170,47 +125,34 @@ fn say_lean(lean: Lean) {
     }
 }
 
-// Prints what a word of a case asks of one sheet, told by its first letter.
-fn answer_one(sheet: &[u8], word: u8, x: u64, y: u64, text: &mut [u8], out: &mut [u8]) {
-    match word {
-        b'?' => say_verdict(sheet, text),
-        b'!' => say_report(sheet, text),
-        b'f' => say_fit(sheet, x as usize),
-        b'h' => say_bytes(sheet, out, x as usize, y as usize),
-        b'o' => say_process(desk::process_check(sheet)),
-        b'=' => say_with(b"bytes", sheet.len() as u64),
+// The answers on two sheets: whether they do the same work, which is leaner, and the step section of that one.
+fn say_pair<'a>(first: &'a [u8], second: &'a [u8]) {
+    say_work(comparing::same_work(first, second));
+    say(b", ");
+    say_lean(comparing::winner(first, second));
+    say(b", [");
+    say_hex(comparing::leaner(first, second));
+    say(b"]");
+}
+
+// Prints what a mark asks of a sheet.
+fn answer_of(sheet: &[u8], mark: u8, x: usize, out: &mut [u8]) {
+    match mark {
+        b'?' => say_report(sheet, 10),
+        b'!' => say_report(sheet, 0),
+        b'=' => {
+            io::print_decimal(1, sheet.len() as u64);
+        }
+        b'$' => say_fit(sheet, out, x),
+        b'%' => say_bytes(sheet, out, x / 100000, x % 100000),
+        b'&' => say_process(desk::process_check(sheet)),
+        b'~' => say_pair(part(sheet, 0, x), part(sheet, x, sheet.len())),
         _ => {}
     }
 }
 
-// Prints what a word of a case asks of two sheets, told by its first letter.
-fn answer_two<'a>(first: &'a [u8], second: &'a [u8], word: u8) {
-    match word {
-        b'j' => say_work(comparing::same_work(first, second)),
-        b'v' => say_lean(comparing::winner(first, second)),
-        b'g' => say_hex(comparing::leaner(first, second)),
-        b',' => say(b", "),
-        b'[' => say(b"["),
-        b']' => say(b"]"),
-        _ => {}
-    }
-}
-
-// Prints what a word of a case asks of the sheet that ends at `at`.
-pub fn answer(sheet: &[u8], at: usize, word: u8, xs: &[u64]) {
-    let mut text = [0u8; 16384];
+// Prints what a mark asks of the sheet that ends at `at`.
+pub fn answer(sheet: &[u8], at: usize, mark: u8, x: u64) {
     let mut out = [170u8; 128];
-    answer_one(
-        part(sheet, 0, at),
-        word,
-        building::nth(xs, 0),
-        building::nth(xs, 1),
-        &mut text,
-        &mut out,
-    );
-}
-
-// Prints what a word of a case asks of the sheet before `base` and the one from there to `at`.
-pub fn answer_both(sheet: &[u8], base: usize, at: usize, word: u8) {
-    answer_two(part(sheet, 0, base), part(sheet, base, at), word);
+    answer_of(part(sheet, 0, at), mark, x as usize, &mut out);
 }

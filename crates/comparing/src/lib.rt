@@ -1,11 +1,6 @@
 // Two sheets given together: whether they do the same work, and which of them is leaner. Each call takes any bytes and always answers;
 // what it answers is fixed by a definition of crates/answers.
 ghost use mathlib.Core.Path.{_≡_};
-ghost use lib.Dec.{ltb};
-ghost use lib.ListN.{length};
-ghost use Rattle.sheet.specs.Refusals.{sameBytes};
-ghost use Rattle.answers.specs.Restated.{restatedSteps};
-ghost use Rattle.restating.specs.Known.{Known};
 ghost use Rattle.comparing.specs.Pairing.{notWork, notLean, WorkRight, LeanRight, SectionRight};
 use pairs::Pair;
 
@@ -29,54 +24,6 @@ pub enum Lean {
         index: usize,
         sheet: u64,
     },
-}
-
-// Whether two step lists are the same.
-fn same_steps(a: &[u64], b: &[u64]) -> bool
-    ensures { λ r. ⌜ r ≡ sameBytes (now (a .entry)) (now (b .entry)) ⌝ }
-{
-    if a.len() != b.len() {
-        return false;
-    }
-    let mut i = 0;
-    while i < a.len() {
-        if a[i] != b[i] {
-            return false;
-        }
-        i += 1;
-    }
-    true
-}
-
-// Whether two accepted sheets have the same restated steps.
-fn same_restated(first: &[u8], second: &[u8], n: usize, s: usize) -> bool
-    requires { ⌜ Known (now first) n s × Known (now second) n s ⌝ }
-    ensures { λ r. ⌜ r ≡ sameBytes (restatedSteps (now (first .entry))) (restatedSteps (now (second .entry))) ⌝ }
-{
-    let mut one = [0u64; 1024];
-    let count = restating::pack_sheet(first, n, s, &mut one);
-    let mut two = [0u64; 1024];
-    let count2 = restating::pack_sheet(second, n, s, &mut two);
-    same_steps(&one[..count], &two[..count2])
-}
-
-// How many steps an accepted sheet has when it is restated.
-fn restated_count(sheet: &[u8], n: usize, s: usize) -> usize
-    requires { ⌜ Known (now sheet) n s ⌝ }
-    ensures { λ r. ⌜ r ≡ length (restatedSteps (now (sheet .entry))) ⌝ }
-{
-    let mut steps = [0u64; 1024];
-    restating::pack_sheet(sheet, n, s, &mut steps)
-}
-
-// Whether the second of two accepted sheets has fewer restated steps.
-fn second_leaner(first: &[u8], second: &[u8], n: usize, s: usize) -> bool
-    requires { ⌜ Known (now first) n s × Known (now second) n s ⌝ }
-    ensures { λ r. ⌜ r ≡ ltb (length (restatedSteps (now (second .entry)))) (length (restatedSteps (now (first .entry)))) ⌝ }
-{
-    let one = restated_count(first, n, s);
-    let two = restated_count(second, n, s);
-    two < one
 }
 
 // A pair's refusal as that of same work.
@@ -125,7 +72,7 @@ pub fn same_work(first: &[u8], second: &[u8]) -> Work
     let Pair::Sound { n, s } = pair else {
         return not_work(pair);
     };
-    if same_restated(first, second, n, s) {
+    if weighing::same_restated(first, second, n, s) {
         return Work::Same;
     }
     Work::Other
@@ -139,7 +86,7 @@ pub fn winner(first: &[u8], second: &[u8]) -> Lean
     let Pair::Sound { n, s } = pair else {
         return not_lean(pair);
     };
-    if second_leaner(first, second, n, s) {
+    if weighing::second_leaner(first, second, n, s) {
         return Lean::Second;
     }
     Lean::First
@@ -153,8 +100,8 @@ pub fn leaner<'a>(first: &'a [u8], second: &'a [u8]) -> &'a [u8]
     let Pair::Sound { n, s } = pair else {
         return &first[0..0];
     };
-    if second_leaner(first, second, n, s) {
-        return &second[s..second.len() - 10];
+    if weighing::second_leaner(first, second, n, s) {
+        return parts::section(second, s);
     }
-    &first[s..first.len() - 10]
+    parts::section(first, s)
 }

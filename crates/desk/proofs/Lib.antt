@@ -1,5 +1,3 @@
 pub mod Arrays
-pub mod Marking
+pub mod EndAnswers
 pub mod ProcessAnswers
-pub mod RestatingAnswers
-pub mod Demands

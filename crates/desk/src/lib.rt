@@ -1,12 +1,11 @@
-// The desk's calls. Each takes any bytes and always answers; what it answers, and every byte of a lent output, is fixed by a definition
-// of specs/.
+// The desk's calls on one sheet that write nothing. Each takes any bytes and always answers; what it answers is fixed by a definition of
+// specs/.
 ghost use mathlib.Core.Path.{_≡_};
 ghost use mathlib.Core.List.{map};
 ghost use Prim.Native.Nat.{_≤_};
 ghost use lib.ListN.{length};
 ghost use Rattle.sets.specs.Lists.{below};
-ghost use Rattle.desk.specs.Calls.{keptOf, refusalOf, notProcess, notRestated, CheckRight, EndSetsRight, ProcessRight, RestateRight};
-use engine::Ran;
+ghost use Rattle.desk.specs.Calls.{keptOf, notProcess, CheckRight, EndSetsRight, ProcessRight};
 use offences::Offence;
 use reading::Reading;
 
@@ -20,12 +19,6 @@ pub struct EndSets {
 pub enum Process {
     Yes,
     Offends(usize),
-    Refused { number: u64, index: usize },
-}
-
-// How many bytes of the output were written, or the refusal.
-pub enum Restated {
-    Written(usize),
     Refused { number: u64, index: usize },
 }
 
@@ -54,52 +47,30 @@ fn first_sets(held: &[u64], n: usize) -> [u64; 16]
     sets
 }
 
-// The fault of a run as a reader's refusal.
-fn refusal(ran: Ran) -> Reading
-    ensures { λ r. ⌜ r ≡ refusalOf ran ⌝ }
+// The verdict on a sheet: accepted with its sizes, or refused with number and step index.
+pub fn check(sheet: &[u8]) -> Reading
+    ensures { λ r. ⌜ CheckRight (now (sheet .entry)) r ⌝ }
 {
-    let Ran::Faulty { number, index } = ran else {
-        return Reading::Refused {
-            number: 0,
-            index: 0,
-        };
-    };
-    Reading::Refused { number, index }
+    let mut held = [0u64; 16];
+    marking::mark_sheet(sheet, &mut held)
 }
 
 // The end sets of a sheet: where each component may be after the last step.
 pub fn end_sets(sheet: &[u8]) -> EndSets
     ensures { λ r. ⌜ EndSetsRight (now (sheet .entry)) r ⌝ }
 {
-    let read = reading::read_sheet(sheet);
+    let mut held = [0u64; 16];
+    let read = marking::mark_sheet(sheet, &mut held);
     let Reading::Accepted { n, m, t, s } = read else {
         return EndSets {
             reading: read,
             sets: [0u64; 16],
         };
     };
-    let end = sheet.len() - 10;
-    let made = running::run_from_start(&sheet[..s], &sheet[s..end], n, m);
-    let ran = made.ran;
-    let Ran::Done = ran else {
-        return EndSets {
-            reading: refusal(ran),
-            sets: [0u64; 16],
-        };
-    };
-    let held = made.held;
     EndSets {
         reading: read,
         sets: first_sets(&held, n),
     }
-}
-
-// The verdict on a sheet: accepted with its sizes, or refused with number and step index.
-pub fn check(sheet: &[u8]) -> Reading
-    ensures { λ r. ⌜ CheckRight (now (sheet .entry)) r ⌝ }
-{
-    let marked = end_sets(sheet);
-    marked.reading
 }
 
 // A reader's refusal as that of the process check.
@@ -121,42 +92,11 @@ pub fn process_check(sheet: &[u8]) -> Process
         return not_process(read);
     };
     let end = sheet.len() - 10;
-    let alphabets = reading::alphabets(&sheet[0..t], n);
+    let mut alphabets = [0u64; 16];
+    reading::alphabets(&sheet[0..t], n, &mut alphabets);
     let found = offences::first_offence(&sheet[s..end], &alphabets, n);
     let Offence::At(i) = found else {
         return Process::Yes;
     };
     Process::Offends(i)
-}
-
-// A reader's refusal as that of restating.
-fn not_restated(read: Reading) -> Restated
-    ensures { λ r. ⌜ r ≡ notRestated read ⌝ }
-{
-    let Reading::Refused { number, index } = read else {
-        return Restated::Written(0);
-    };
-    Restated::Refused { number, index }
-}
-
-// Restates a sheet in normal form into the output: 13 only for an accepted sheet whose restated bytes do not fit. A refused call
-// leaves the output as it came, and bytes behind the restated sheet keep their values.
-pub fn restate(sheet: &[u8], out: &mut [u8]) -> Restated
-    ensures { λ r. ⌜ RestateRight (now (sheet .entry)) (now (out .entry)) r (now (out .exit)) ⌝ }
-{
-    let read = check(sheet);
-    let Reading::Accepted { n, m, t, s } = read else {
-        return not_restated(read);
-    };
-    let mut packed = [0u64; 1024];
-    let count = restating::pack_sheet(sheet, n, s, &mut packed);
-    let size = s + 8 * count + 10;
-    if out.len() < size {
-        return Restated::Refused {
-            number: 13,
-            index: 0,
-        };
-    }
-    writing::write_sheet(&sheet[..s], &packed, count, n as u8, m as u8, out);
-    Restated::Written(size)
 }

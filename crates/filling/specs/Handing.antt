@@ -6,10 +6,15 @@ use Prim.Native.Nat.{ℕ}
 use lib.ListN.{length, take, drop}
 use Rattle.filling.specs.declared.Told.{Told}
 use Rattle.filling.specs.declared.PairTold.{PairTold}
+use Rattle.filling.specs.declared.ReadTold.{ReadTold}
 
 -- the values in front of the array, as many as it has room for; the rest of it as it was
 abbrev pub filled : List ℕ → List ℕ → List ℕ
 filled values out = take (length out) values ++ drop (length values) out
+
+-- a number that is told as it is
+abbrev pub itself : ℕ → ℕ
+itself k = k
 
 -- the number and the value of an answer about one sheet: r is returned, and the array was `old` and became `new`
 pub record Handed (told : Told) (r : ℕ) (old new : List ℕ) : Type 0 where
@@ -20,3 +25,8 @@ pub record Handed (told : Told) (r : ℕ) (old new : List ℕ) : Type 0 where
 pub record PairHanded (told : PairTold) (r : ℕ) (old new : List ℕ) : Type 0 where
   pub number-returned : r ≡ told .number
   pub values-in-front : new ≡ filled (told .value ∷ told .sheet ∷ []) old
+
+-- a verdict
+pub record ReadHanded (told : ReadTold) (r : ℕ) (old new : List ℕ) : Type 0 where
+  pub number-returned : r ≡ told .number
+  pub values-in-front : new ≡ filled (told .index ∷ told .components ∷ told .actions ∷ told .transitions ∷ told .steps ∷ []) old

@@ -5,7 +5,7 @@ use report::Printed;
 fn main() {
     let mut sheet = io::large_buffer();
     let n = io::read_full(0, &mut sheet);
-    let mut text = [0u8; 16384];
+    let mut text = io::large_buffer();
     let printed = report::report(&sheet[..n], &mut text);
     let Printed::Text(size) = printed else {
         return;

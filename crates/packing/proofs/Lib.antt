@@ -1,3 +1,2 @@
 pub mod Dependences
-pub mod Showing
 pub mod Sections

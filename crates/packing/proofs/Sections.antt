@@ -13,8 +13,9 @@ use Rattle.traces.specs.Foata.{foata}
 use Rattle.systems.specs.Checking.{flat}
 use Rattle.sheet.specs.Numbers.{number, field, parts}
 use Rattle.sheet.proofs.Numbers.{parts-length, parts-at, number-part}
-use Rattle.packing.specs.Levels.{dependentBy, dependentOn, AllOwned, Shows, Placed, Packed}
-use Rattle.packing.proofs.Showing.{Remaining}
+use Rattle.placing.specs.Placing.{dependentOn, AllOwned, Shows, Placed}
+use Rattle.placing.proofs.Showing.{Remaining}
+use Rattle.packing.specs.Packed.{dependentBy, Packed}
 
 module _ (size count : ℕ) (b : List ℕ) where
   -- the numbers of the parts

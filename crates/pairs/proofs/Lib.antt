@@ -1,2 +1,1 @@
-pub mod Sameness
 pub mod PairRefusals

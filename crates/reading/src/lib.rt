@@ -51,18 +51,16 @@ pub fn read_trailer(sheet: &[u8]) -> Reading
     sizes(sheet)
 }
 
-// The alphabets of n records; 0 for the others.
-pub fn alphabets(records: &[u8], n: usize) -> [u64; 16]
-    requires { ⌜ (n ≤ 16) × (16 * n ≤ length (now records)) ⌝ }
-    ensures { λ r. ⌜ Alphabets (alphabetOf (now (records .entry))) n r ⌝ }
+// Puts the alphabets of n records into `found`.
+pub fn alphabets(records: &[u8], n: usize, found: &mut [u64])
+    requires { ⌜ (n ≤ 16) × (16 * n ≤ length (now records)) × (length (now found) ≡ 16) ⌝ }
+    ensures { λ _. ⌜ Alphabets (alphabetOf (now (records .entry))) n (now (found .exit)) ⌝ }
 {
-    let mut found = [0u64; 16];
     let mut j = 0;
     while j < n {
         found[j] = numbers::number8(records, 16 * j + 8);
         j += 1;
     }
-    found
 }
 
 // How many actions the steps of the section have together.
@@ -88,17 +86,12 @@ fn tables_refused(records: &[u8], section: &[u8], n: usize, m: usize) -> u64
     if records::records_wrong(records, n, m as u64) {
         return 5;
     }
-    let found = alphabets(records, n);
+    let mut found = [0u64; 16];
+    alphabets(records, n, &mut found);
     if records::action_unused(&found, n, m as u32) {
         return 6;
     }
-    if transitions::transitions_wrong(section, records, &found, n) {
-        return 7;
-    }
-    if transitions::order_wrong(section) {
-        return 8;
-    }
-    0
+    transitions::transitions_refused(section, records, &found, n)
 }
 
 // Refusals 1 to 9: the sheet, up to its steps.

@@ -1,8 +1,7 @@
 -- The actions that some of the alphabets in a list have.
 -- Assumes nothing.
 use mathlib.Core.Path.{_≡_}
-use mathlib.Core.Logic.{_↔_}
-use mathlib.Core.Bool.{Bool, true, not}
+use mathlib.Core.Bool.{Bool, not}
 use mathlib.Core.List.{List}
 use Prim.Native.Nat.{ℕ}
 use lib.ListN.{getD}
@@ -11,7 +10,7 @@ use Rattle.sets.specs.Bits.{member}
 
 -- the set has just what the first n sets of the list have
 pub record UsedBy (l : List ℕ) (n all : ℕ) : Type 0 where
-  pub exact : (a : ℕ) → (member all a ≡ true) ↔ (some (λ j. member (getD l j 0) a) (below n) ≡ true)
+  pub exact : (a : ℕ) → member all a ≡ some (λ j. member (getD l j 0) a) (below n)
 
 -- some action below m is in none of the n alphabets of the list
 abbrev pub unusedIn : List ℕ → ℕ → ℕ → Bool

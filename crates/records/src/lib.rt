@@ -1,7 +1,7 @@
 // Refusals 5 and 6: the component records of a sheet, handed over as a part of it, and the alphabets that they hold.
 ghost use mathlib.Core.Path.{_≡_};
 ghost use mathlib.Core.Bool.{not};
-ghost use Prim.Native.Nat.{_+_, _*_, _≤_};
+ghost use Prim.Native.Nat.{_+_, _-_, _*_, _^_, _≤_};
 ghost use lib.Dec.{eqb};
 ghost use lib.ListN.{length};
 ghost use Rattle.sets.specs.Lists.{some, below};
@@ -68,18 +68,22 @@ fn used(alphabets: &[u64], n: usize) -> u64
     all
 }
 
+// The set of the numbers below m.
+fn full(m: u32) -> u64
+    requires { ⌜ m ≤ 64 ⌝ }
+    ensures { λ r. ⌜ r ≡ 2 ^ m - 1 ⌝ }
+{
+    if m == 64 {
+        return 18446744073709551615;
+    }
+    (1u64 << m) - 1
+}
+
 // 6: whether some action below m is in none of the n alphabets.
 pub fn action_unused(alphabets: &[u64], n: usize, m: u32) -> bool
     requires { ⌜ (m ≤ 64) × (n ≤ length (now alphabets)) ⌝ }
     ensures { λ r. ⌜ r ≡ unusedIn (now (alphabets .entry)) n m ⌝ }
 {
-    let all = used(alphabets, n);
-    let mut a = 0u32;
-    while a < m {
-        if !sets::has(all, a) {
-            return true;
-        }
-        a += 1;
-    }
-    false
+    let all = full(m);
+    (used(alphabets, n) & all) != all
 }

@@ -1,26 +1,23 @@
 -- The lines written for an accepted sheet are its report, and a report always fits 16,384 bytes; what is then printed.
 -- Assumes nothing.
 use mathlib.Core.Path.{_≡_, refl, sym, ap, ap₂, _∙_}
-use mathlib.Core.Bool.{Bool, true, false}
+use mathlib.Core.Bool.{Bool}
 use mathlib.Core.List.{List, [], _∷_, _++_, map, List·Memᴰ, List·Memᴰ·head, List·Memᴰ·tail}
-use Prim.Native.Nat.{ℕ, _+_, _-_, _/_, _≤_, _<_}
+use Prim.Native.Nat.{ℕ, _+_, _≤_}
 use native.Mathlib.Omega.{arith}
 use lib.Dec.{ltb}
 use lib.ListN.{length, take, drop, getD, length-append}
-use lib.Seq.{take-length}
 use Rattle.sets.specs.Lists.{concat, below}
 use Rattle.sets.specs.Bits.{members}
-use Rattle.sets.proofs.Bools.{ltb-true, ltb-false}
+use borrow.Author.Tests.{le-ltb}
 use Rattle.sets.proofs.Lists.{mem-below}
 use Rattle.systems.specs.Checking.{flat}
-use Rattle.sheet.specs.Layout.{stepsAt, componentCount, stepCount, tables, steps}
+use Rattle.sheet.specs.Layout.{componentCount, stepCount, tables, steps}
 use Rattle.sheet.specs.Verdict.{Verdict, verdict, Accepted}
 use Rattle.sheet.proofs.RoundTrip.{steps-length}
 use Rattle.answers.specs.EndSets.{endSet}
 use Rattle.answers.specs.Restated.{restatedSteps}
-use Rattle.answers.specs.Figure.{figure}
-use Rattle.answers.specs.Stuck.{stuck}
-use Rattle.answers.specs.Report.{acceptedWord, refusedWord, endWord, line, one, summaryLine, stepLines, endLines, report}
+use Rattle.answers.specs.Report.{acceptedWord, refusedWord, endWord, line, summaryLine, stepLines, endLines, report}
 use Rattle.answers.proofs.Normal.{normal-actions, normal-no-longer}
 use Rattle.answers.proofs.Restated.{restated-normal, accepted-limits, accepted-order, accepted-fine}
 use Rattle.answers.proofs.Reports.{report-refused, report-accepted}
@@ -29,8 +26,10 @@ use Rattle.printing.proofs.Bounds.{line-most, steps-most, ends-most}
 use Rattle.restating.specs.Known.{PackedSteps}
 use Rattle.measures.specs.Ends.{EndsKnown}
 use Rattle.measures.proofs.EndArrays.{set-at}
-use Rattle.report.specs.declared.Printed.the-variants.{Text, TooShort}
-use Rattle.report.specs.Printouts.{summaryOf, unlessShort, printedOf, outputUnless, outputOf}
+use Rattle.report.specs.declared.Printed.the-variants.{Text}
+use Rattle.summary.specs.Summaries.{summaryOf}
+use Rattle.fitting.specs.Fitting.{outputUnless, fitted}
+use Rattle.report.specs.Printouts.{unlessShort, printedOf, outputOf}
 
 -- ---- the lines of an accepted sheet
 
@@ -45,13 +44,6 @@ steps-told b packed count p = ap stepTexts (p .sets)
 summary-line : (b : List ℕ) → line acceptedWord (summaryOf b) ≡ summaryLine b
 unfolding summaryLine
 summary-line b = refl
-
-pub summary-told : (b : List ℕ) (s steps count fig st : ℕ) → s ≡ stepsAt b → steps ≡ (length b - 10 - s) / 8 → count ≡ length (restatedSteps b)
-    → fig ≡ figure b → st ≡ one (stuck b) → _≡_ {A = List ℕ} (steps ∷ count ∷ fig ∷ st ∷ []) (summaryOf b)
-unfolding stepCount
-summary-told b s steps count fig st at p q u v =
-    let e : steps ≡ stepCount b = p ∙ ap (λ (x : ℕ). (length b - 10 - x) / 8) at in
-    ap₂ _∷_ e (ap₂ _∷_ q (ap₂ _∷_ u (ap (λ (x : ℕ). x ∷ []) v)))
 
 module _ {b : List ℕ} {n m s : ℕ} {sets : List ℕ} (r : EndsKnown b n m s sets) where
   ends-told : endTexts sets (below n) ≡ endLines b
@@ -129,26 +121,19 @@ refused-room numbers k i size e h = let m = line-most refusedWord numbers in let
 
 -- ---- what is printed
 
-printed-by : (b : List ℕ) (size : ℕ) (c : Bool) → ltb size (length (report b)) ≡ c → unlessShort c (length (report b)) ≡ printedOf b size
-printed-by b size c e = ap (λ (d : Bool). unlessShort d (length (report b))) (sym e)
-
-output-by : (b out : List ℕ) (c : Bool) → ltb (length out) (length (report b)) ≡ c → outputUnless c (report b) out ≡ outputOf b out
-output-by b out c e = ap (λ (d : Bool). outputUnless d (report b) out) (sym e)
-
 -- "A buffer of 16,384 bytes always serves."
 pub report-serves : (b out : List ℕ) → 16384 ≤ length out
     → (printedOf b (length out) ≡ Text (length (report b))) × (outputOf b out ≡ report b ++ drop (length (report b)) out)
 report-serves b out h =
     let s = report-short b in
-    let f = ltb-false (length out) (length (report b)) .1 (omega arith) in
-    (sym (printed-by b (length out) false f), sym (output-by b out false f))
+    let f = le-ltb (length out) (length (report b)) (omega arith) in (
+      ap (λ (t : Bool). unlessShort t (length (report b))) f,
+      ap (λ (t : Bool). outputUnless t (report b) out) f,
+    )
 
 module _ (b : List ℕ) {x text : List ℕ} {size : ℕ} (W : TextAt (report b) x 0 text size) where
   size-told : size ≡ length (report b)
   size-told = let e = W .place in omega arith
-
-  text-told : take size text ≡ report b
-  text-told = W .written
 
   pub text-fits : 16384 ≤ length x → size ≤ length text
   text-fits h =
@@ -157,19 +142,11 @@ module _ (b : List ℕ) {x text : List ℕ} {size : ℕ} (W : TextAt (report b) 
       let f = report-short b in
       omega arith
 
-  pub short-right : (out : List ℕ) → length out < size → (TooShort ≡ printedOf b (length out)) × (out ≡ outputOf b out)
-  short-right out h =
-      let e = size-told in
-      let t = ltb-true (length out) (length (report b)) .1 (omega arith) in
-      (printed-by b (length out) true t, output-by b out true t)
-
-  pub printed-right : (out after : List ℕ) → size ≤ length out
-      → after ≡ take (length (take size text)) (take size text) ++ drop (length (take size text)) out → (Text size ≡ printedOf b (length out)) × (after ≡ outputOf b out)
-  printed-right out after h e =
-      let z = size-told in
-      let f = ltb-false (length out) (length (report b)) .1 (omega arith) in (
-        ap Text z ∙ printed-by b (length out) false f,
-        e ∙ ap (λ (l : List ℕ). take (length l) l ++ drop (length l) out) text-told
-            ∙ ap (λ (l : List ℕ). l ++ drop (length (report b)) out) (take-length (report b))
-            ∙ output-by b out false f,
+  -- what the output was found to be, told of the report
+  pub printed-right : (out after : List ℕ) (short : Bool) → short ≡ ltb (length out) (length (take size text)) → after ≡ fitted (take size text) out
+      → (unlessShort short size ≡ printedOf b (length out)) × (after ≡ outputOf b out)
+  printed-right out after short e f =
+      let told = W .written in (
+        ap₂ unlessShort (e ∙ ap (λ (l : List ℕ). ltb (length out) (length l)) told) size-told,
+        f ∙ ap (λ (l : List ℕ). fitted l out) told,
       )

@@ -1,17 +1,14 @@
 -- What the values of the report stand for.
 -- Assumes nothing.
 use mathlib.Core.Bool.{Bool, true, false}
-use mathlib.Core.List.{List, [], _∷_, _++_}
+use mathlib.Core.List.{List, [], _∷_}
 use Prim.Native.Nat.{ℕ}
 use lib.Dec.{ltb}
-use lib.ListN.{length, drop}
-use Rattle.sheet.specs.Layout.{stepCount}
+use lib.ListN.{length}
 use Rattle.reading.specs.declared.Reading.{Reading}
 use Rattle.reading.specs.declared.Reading.the-variants.{Accepted as readAccepted, Refused as readRefused}
-use Rattle.answers.specs.Restated.{restatedSteps}
-use Rattle.answers.specs.Figure.{figure}
-use Rattle.answers.specs.Stuck.{stuck}
-use Rattle.answers.specs.Report.{one, report}
+use Rattle.answers.specs.Report.{report}
+use Rattle.fitting.specs.Fitting.{fitted}
 use Rattle.report.specs.declared.Printed.{Printed}
 use Rattle.report.specs.declared.Printed.the-variants.{Text, TooShort}
 
@@ -19,10 +16,6 @@ use Rattle.report.specs.declared.Printed.the-variants.{Text, TooShort}
 abbrev pub refusalNumbers : Reading → List ℕ
 refusalNumbers (readAccepted n m t s) = 0 ∷ 0 ∷ []
 refusalNumbers (readRefused k i) = k ∷ i ∷ []
-
--- the numbers of the first line: "steps in the sheet, restated steps, figure, 1 if stuck else 0"
-abbrev pub summaryOf : List ℕ → List ℕ
-summaryOf b = stepCount b ∷ length (restatedSteps b) ∷ figure b ∷ one (stuck b) ∷ []
 
 abbrev pub unlessShort : Bool → ℕ → Printed
 unlessShort true k = TooShort
@@ -32,10 +25,6 @@ unlessShort false k = Text k
 abbrev pub printedOf : List ℕ → ℕ → Printed
 printedOf b size = unlessShort (ltb size (length (report b))) (length (report b))
 
-abbrev pub outputUnless : Bool → List ℕ → List ℕ → List ℕ
-outputUnless true text out = out
-outputUnless false text out = text ++ drop (length text) out
-
--- the output afterwards: the text in front and the other bytes as they were; as it came where it is shorter than the text
+-- the output afterwards
 abbrev pub outputOf : List ℕ → List ℕ → List ℕ
-outputOf b out = outputUnless (ltb (length out) (length (report b))) (report b) out
+outputOf b out = fitted (report b) out

@@ -13,7 +13,7 @@ use Rattle.systems.specs.Checking.{flat}
 use Rattle.systems.specs.Independence.{dependentBy}
 use Rattle.sheet.specs.Layout.{alphabetOf}
 use Rattle.sheet.specs.Sections.{Alphabets}
-use Rattle.packing.specs.Levels.{Packed}
+use Rattle.packing.specs.Packed.{Packed}
 use Rattle.answers.specs.Restated.{restatedSteps}
 use Rattle.answers.proofs.Restated.{restated-normal}
 use Rattle.restating.specs.Known.{Admitted, PackedSteps}

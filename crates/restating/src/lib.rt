@@ -9,6 +9,7 @@ pub fn pack_sheet(sheet: &[u8], n: usize, s: usize, packed: &mut [u64]) -> usize
     ensures { λ r. ⌜ PackedSteps (now (sheet .entry)) (now (packed .exit)) r ⌝ }
 {
     let end = sheet.len() - 10;
-    let alphabets = reading::alphabets(&sheet[0..16 * n], n);
+    let mut alphabets = [0u64; 16];
+    reading::alphabets(&sheet[0..16 * n], n, &mut alphabets);
     packing::pack(&sheet[s..end], &alphabets, n, packed)
 }

@@ -14,6 +14,11 @@ misfit states l n t =
     leb n (t .component) || leb (states (t .component)) (t .source) || leb (states (t .component)) (t .target)
     || not (eqb (t .label) internal || member (getD l (t .component) 0) (t .label))
 
+-- the same but for the component's own number, of a component with so many states and this alphabet
+abbrev pub unfit : ℕ → ℕ → Transition → Bool
+unfit states alphabet t =
+    leb states (t .source) || leb states (t .target) || not (eqb (t .label) internal || member alphabet (t .label))
+
 -- a byte string as one number, the first byte heaviest
 abbrev pub heavyFrom : ℕ → List ℕ → ℕ
 heavyFrom x [] = x

@@ -10,47 +10,59 @@ ghost use Rattle.sets.specs.Bits.{member};
 ghost use Rattle.sheet.specs.Numbers.{parts};
 ghost use Rattle.sheet.specs.Layout.{statesOf, transitionOf};
 ghost use Rattle.sheet.specs.Refusals.{risingBytes};
-ghost use Rattle.transitions.specs.Fitting.{misfit, heavyFirst};
+ghost use Rattle.transitions.specs.Fitting.{misfit, unfit, heavyFirst};
+ghost use Rattle.transitions.specs.Numbered.{transitionsNumber};
 
 // Whether a label is neither that of an internal move nor in the alphabet.
 fn label_wrong(alphabet: u64, label: u8) -> bool
     ensures { λ r. ⌜ r ≡ not (eqb label 255 || member alphabet label) ⌝ }
 {
-    if 64 <= label {
-        return label != 255;
+    if label < 64 {
+        if sets::has(alphabet, label as u32) {
+            return false;
+        }
     }
-    !sets::has(alphabet, label as u32)
+    label != 255
 }
 
-// 7, of the transition with index k of a transition section.
-fn transition_wrong(section: &[u8], k: usize, records: &[u8], alphabets: &[u64], n: usize) -> bool
-    requires { ⌜ (4 * k + 4 ≤ length (now section)) × (16 * n ≤ length (now records)) × (n ≤ length (now alphabets)) × (n ≤ 16) ⌝ }
-    ensures { λ r. ⌜ r
-        ≡ misfit (statesOf (now (records .entry))) (now (alphabets .entry)) n
-        (transitionOf (take 4 (drop (4 * k) (now (section .entry))))) ⌝ }
+// Whether the transition at `at` does not fit a component with so many states and this alphabet.
+fn unfit_at(section: &[u8], at: usize, states: u8, alphabet: u64) -> bool
+    requires { ⌜ at + 4 ≤ length (now section) ⌝ }
+    ensures { λ r. ⌜ r ≡ unfit states alphabet (transitionOf (take 4 (drop at (now (section .entry))))) ⌝ }
 {
-    let at = 4 * k;
-    let component = section[at] as usize;
-    if n <= component {
+    if states <= section[at + 1] {
         return true;
     }
-    let states = records[16 * component];
-    (states <= section[at + 1])
-        | (states <= section[at + 3])
-        | label_wrong(alphabets[component], section[at + 2])
+    if states <= section[at + 3] {
+        return true;
+    }
+    label_wrong(alphabet, section[at + 2])
 }
 
-// 7: whether some transition of the section does not fit its component.
-pub fn transitions_wrong(section: &[u8], records: &[u8], alphabets: &[u64], n: usize) -> bool
-    requires { ⌜ (16 * n ≤ length (now records)) × (n ≤ length (now alphabets)) × (n ≤ 16) ⌝ }
+// 7: whether some transition of the section does not fit its component. Mostly it has the component of the one before, whose number of
+// states and alphabet are at hand.
+fn transitions_wrong(section: &[u8], records: &[u8], alphabets: &[u64], n: usize) -> bool
+    requires { ⌜ (1 ≤ n) × (16 * n ≤ length (now records)) × (n ≤ length (now alphabets)) × (n ≤ 16) ⌝ }
     ensures { λ r. ⌜ r
         ≡ some (misfit (statesOf (now (records .entry))) (now (alphabets .entry)) n)
         (map transitionOf (parts 4 (length (now (section .entry)) / 4) (now (section .entry)))) ⌝ }
 {
     let count = section.len() / 4;
+    let mut current = 0;
+    let mut states = records[0];
+    let mut alphabet = alphabets[0];
     let mut k = 0;
     while k < count {
-        if transition_wrong(section, k, records, alphabets, n) {
+        let component = section[4 * k] as usize;
+        if component != current {
+            if n <= component {
+                return true;
+            }
+            current = component;
+            states = records[16 * component];
+            alphabet = alphabets[component];
+        }
+        if unfit_at(section, 4 * k, states, alphabet) {
             return true;
         }
         k += 1;
@@ -75,7 +87,7 @@ fn key(s: &[u8], at: usize) -> u64
 }
 
 // 8: whether the transitions of the section do not rise strictly.
-pub fn order_wrong(section: &[u8]) -> bool
+fn order_wrong(section: &[u8]) -> bool
     ensures { λ r. ⌜ r ≡ not (risingBytes (parts 4 (length (now (section .entry)) / 4) (now (section .entry)))) ⌝ }
 {
     let count = section.len() / 4;
@@ -87,4 +99,20 @@ pub fn order_wrong(section: &[u8]) -> bool
         k += 1;
     }
     false
+}
+
+// 7, 8 or 0: whether some transition of the section does not fit its component, else whether they do not rise strictly.
+pub fn transitions_refused(section: &[u8], records: &[u8], alphabets: &[u64], n: usize) -> u64
+    requires { ⌜ (1 ≤ n) × (16 * n ≤ length (now records)) × (n ≤ length (now alphabets)) × (n ≤ 16) ⌝ }
+    ensures { λ r. ⌜ r
+        ≡ transitionsNumber (statesOf (now (records .entry))) (now (alphabets .entry)) n
+        (parts 4 (length (now (section .entry)) / 4) (now (section .entry))) ⌝ }
+{
+    if transitions_wrong(section, records, alphabets, n) {
+        return 7;
+    }
+    if order_wrong(section) {
+        return 8;
+    }
+    0
 }

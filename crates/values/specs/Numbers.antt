@@ -1,30 +1,11 @@
--- The number and the values of each answer: 0 or the refusal's number, and what was asked for or where the refusal is.
+-- The number and the value of each answer about one sheet: 0 or the refusal's number, and what was asked for or where the refusal is.
 -- Assumes nothing.
-use mathlib.Core.List.{List, [], _∷_}
 use mathlib.Core.Option.{Option, none, some as just}
 use Prim.Native.Nat.{ℕ, _+_, _<_, _^_}
-use Rattle.reading.specs.declared.Reading.{Reading}
-use Rattle.reading.specs.declared.Reading.the-variants.{Accepted as readAccepted, Refused as readRefused}
 use Rattle.answers.specs.Answers.{Answer, given, refused}
-use Rattle.answers.specs.Pairs.{PairAnswer, given as pairGiven, refused as pairRefused}
 use Rattle.report.specs.declared.Printed.{Printed}
 use Rattle.report.specs.declared.Printed.the-variants.{Text, TooShort}
 use Rattle.filling.specs.declared.Told.{Told}
-use Rattle.filling.specs.declared.PairTold.{PairTold}
-
--- a verdict: 0 for an accepted sheet, else the refusal's number
-abbrev pub readNumber : Reading → ℕ
-readNumber (readAccepted n m t s) = 0
-readNumber (readRefused k i) = k
-
--- the step index of the refusal, and n, m, T and S of an accepted sheet
-abbrev pub readValues : Reading → List ℕ
-readValues (readAccepted n m t s) = 0 ∷ n ∷ m ∷ t ∷ s ∷ []
-readValues (readRefused k i) = i ∷ 0 ∷ 0 ∷ 0 ∷ 0 ∷ []
-
--- a number that is told as it is
-abbrev pub itself : ℕ → ℕ
-itself k = k
 
 -- what was asked for as a number, or the step index of the refusal
 abbrev pub answerTold : {A : Type 0} → (A → ℕ) → Answer A → Told
@@ -43,11 +24,6 @@ processTold = answerTold offending
 abbrev pub Low : Answer (Option ℕ) → Type 0
 Low (given o) = offending o < 2 ^ 64
 Low (refused k i) = Unit {0}
-
--- for two sheets: what was asked for as a number, and 0; or the step index of the refusal and the sheet that it is of
-abbrev pub pairTold : {A : Type 0} → (A → ℕ) → PairAnswer A → PairTold
-pairTold f (pairGiven x) = record { number = 0; value = f x; sheet = 0 }
-pairTold f (pairRefused k i sheet) = record { number = k; value = i; sheet = sheet }
 
 -- 0 and the length of a text that was printed, 1 and 0 for an output that is too short
 abbrev pub printedTold : Printed → Told

@@ -1,41 +1,18 @@
-// The numbers and values of each answer, as the calls for C hand them back: 0 or the refusal's number, and what was asked for or the step
-// index of the refusal.
+// The number and the value of each answer about one sheet, as the calls for C hand them back: 0 or the refusal's number, and what was asked
+// for or the step index of the refusal.
 ghost use mathlib.Core.Path.{_≡_};
 ghost use Rattle.answers.specs.Report.{one};
-ghost use Rattle.desk.specs.Calls.{processOf, restatedOf};
-ghost use Rattle.comparing.specs.Pairing.{workOf, leanOf};
+ghost use Rattle.desk.specs.Calls.{processOf};
+ghost use Rattle.rewriting.specs.Calls.{restatedOf};
 ghost use Rattle.figures.specs.Figures.{figureOf, stuckOf};
-ghost use Rattle.values.specs.Numbers.{readNumber, readValues, Low, processTold, answerTold, pairTold, printedTold, itself};
-use comparing::Lean;
-use comparing::Work;
+ghost use Rattle.filling.specs.Handing.{itself};
+ghost use Rattle.values.specs.Numbers.{Low, processTold, answerTold, printedTold};
 use desk::Process;
-use desk::Restated;
 use figures::Figure;
 use figures::Stuck;
-use filling::PairTold;
 use filling::Told;
-use reading::Reading;
 use report::Printed;
-
-// 0 for an accepted sheet, else the refusal's number.
-pub fn read_number(read: Reading) -> u64
-    ensures { λ r. ⌜ r ≡ readNumber read ⌝ }
-{
-    let Reading::Refused { number, index: _ } = read else {
-        return 0;
-    };
-    number
-}
-
-// 0 and the sizes of an accepted sheet, or the step index of the refusal and zeros.
-pub fn read_values(read: Reading) -> [u64; 5]
-    ensures { λ r. ⌜ r ≡ readValues read ⌝ }
-{
-    match read {
-        Reading::Accepted { n, m, t, s } => [0, n as u64, m as u64, t as u64, s as u64],
-        Reading::Refused { number: _, index } => [index as u64, 0, 0, 0, 0],
-    }
-}
+use rewriting::Restated;
 
 // The process check: 0 for yes, or one past the index of the first step that offends.
 pub fn process_told(told: Process) -> Told
@@ -119,60 +96,6 @@ pub fn printed_told(told: Printed) -> Told
         Printed::TooShort => Told {
             number: 1,
             value: 0,
-        },
-    }
-}
-
-// 1 for the same work, 0 for other work.
-pub fn work_told(told: Work) -> PairTold
-    ensures { λ r. ⌜ r ≡ pairTold one (workOf told) ⌝ }
-{
-    match told {
-        Work::Same => PairTold {
-            number: 0,
-            value: 1,
-            sheet: 0,
-        },
-        Work::Other => PairTold {
-            number: 0,
-            value: 0,
-            sheet: 0,
-        },
-        Work::Refused {
-            number,
-            index,
-            sheet,
-        } => PairTold {
-            number,
-            value: index as u64,
-            sheet,
-        },
-    }
-}
-
-// 0 for the first sheet, 1 for the second.
-pub fn lean_told(told: Lean) -> PairTold
-    ensures { λ r. ⌜ r ≡ pairTold itself (leanOf told) ⌝ }
-{
-    match told {
-        Lean::First => PairTold {
-            number: 0,
-            value: 0,
-            sheet: 0,
-        },
-        Lean::Second => PairTold {
-            number: 0,
-            value: 1,
-            sheet: 0,
-        },
-        Lean::Refused {
-            number,
-            index,
-            sheet,
-        } => PairTold {
-            number,
-            value: index as u64,
-            sheet,
         },
     }
 }

@@ -4,8 +4,9 @@ use mathlib.Core.Path.{ap, _∙_}
 use mathlib.Core.List.{List}
 use Prim.Native.Nat.{ℕ}
 use borrow.Author.Needs.{needs}
+use Rattle.filling.specs.declared.ReadTold.{ReadTold}
 use Rattle.filling.specs.Handing.{filled}
-use Rattle.values.specs.Numbers.{readNumber}
+use Rattle.verdict_values.specs.Numbers.{readTold}
 use Rattle.calls.proofs.oatmist_end_sets.Statement.{statement}
 use Rattle.calls.proofs.oatmist_end_sets.Tie as tie
 
@@ -18,8 +19,8 @@ slice-aggregate-fill c = search needs
 fill-requires : tie.Need-fill-requires
 fill-requires c κs = search needs
 
-read-number-requires : tie.Need-read-number-requires
-read-number-requires c κs = search needs
+read-told-requires : tie.Need-read-told-requires
+read-told-requires c κs = search needs
 
 same-length : tie.Need-same-length
 same-length c = search needs
@@ -29,7 +30,7 @@ returns c =
     let f = c .before .before .before in
     let marked = f .before .before .before .before in
     let a = marked .before .before .before .args in (
-      c .read-number .ensures ∙ ap readNumber (marked .end-sets .ensures .verdict-told),
+      ap (λ (x : ReadTold). x .number) (c .read-told .ensures ∙ ap readTold (marked .end-sets .ensures .verdict-told)),
       f .fill .ensures ∙ ap (λ (l : List ℕ). filled l (a .ends .now)) (marked .end-sets .ensures .sets-told),
     )
 
@@ -40,6 +41,6 @@ oatmist-end-sets-spec =
     end-sets-requires
     slice-aggregate-fill
     fill-requires
-    read-number-requires
+    read-told-requires
     same-length
     returns)

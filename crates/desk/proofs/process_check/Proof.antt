@@ -62,17 +62,27 @@ part-alphabets-start c = search needs
 part-alphabets-end : tie.Need-part-alphabets-end
 part-alphabets-end c = let r = admitted-at (c .before) in omega arith
 
+slice-aggregate-alphabets : tie.Need-slice-aggregate-alphabets
+slice-aggregate-alphabets c = search needs
+
 alphabets-requires : tie.Need-alphabets-requires
 alphabets-requires c κs =
-    let k = c .before .before in
+    let k = c .before .before .before in
     let r = admitted-at k in
-    (omega arith, records-long (sheet-at k) (n-at k) (m-at k) (t-at k) (s-at k) r)
+    (omega arith, records-long (sheet-at k) (n-at k) (m-at k) (t-at k) (s-at k) r, search needs)
+
+-- the sheet read, and the array as the call left it
+abbrev read-at : tie.After-alphabets2 → tie.After-read
+read-at c = c .before .before .before .before
+
+abbrev alphabets-at : tie.After-alphabets2 → List ℕ
+alphabets-at c = c .alphabets2 .last .1 .1 .0
 
 sub-first-offence : tie.Need-sub-first-offence
-sub-first-offence c = let r = admitted-at (c .before .before .before) in omega arith
+sub-first-offence c = let r = admitted-at (read-at (c .before)) in omega arith
 
 part-first-offence-start : tie.Need-part-first-offence-start
-part-first-offence-start c = let r = admitted-at (c .before .before .before) in omega arith
+part-first-offence-start c = let r = admitted-at (read-at (c .before)) in omega arith
 
 part-first-offence-end : tie.Need-part-first-offence-end
 part-first-offence-end c = search needs
@@ -82,10 +92,10 @@ slice-aggregate-first-offence c = search needs
 
 first-offence-requires : tie.Need-first-offence-requires
 first-offence-requires c κs =
-    let k = c .before .before .before .before .before in
-    let read = c .before .before .alphabets in
+    let read = c .before .before .before in
+    let k = read-at read in
     let r = admitted-at k in
-    ((let size = read .ensures .size in omega arith), known-section (sheet-at k) (n-at k) (m-at k) (t-at k) (s-at k) r (read .result) (read .ensures))
+    ((let size = read .alphabets2 .ensures .size in omega arith), known-section (sheet-at k) (n-at k) (m-at k) (t-at k) (s-at k) r (alphabets-at read) (read .alphabets2 .ensures))
 
 enum-known-found : tie.Need-enum-known-found
 enum-known-found c = search needs
@@ -96,18 +106,18 @@ enum-told-2 c = search needs
 returns-2 : tie.Need-returns-2
 returns-2 c =
     let d = c .before .before in
-    let k = d .before .before .before .before .before .before in
-    let read = d .before .before .before .alphabets in
-    process-given (sheet-at k) (n-at k) (m-at k) (t-at k) (s-at k) (admitted-at k) (read .result) (read .ensures) none
+    let read = d .before .before .before .before in
+    let k = read-at read in
+    process-given (sheet-at k) (n-at k) (m-at k) (t-at k) (s-at k) (admitted-at k) (alphabets-at read) (read .alphabets2 .ensures) none
     (ap offenceOf (sym (c .enum-told2 .given .1)) ∙ d .first-offence .ensures)
 
 returns-3 : tie.Need-returns-3
 returns-3 c =
     let d = c .before .before .before in
-    let k = d .before .before .before .before .before .before in
-    let read = d .before .before .before .alphabets in
+    let read = d .before .before .before .before in
+    let k = read-at read in
     let g = c .before .found .given in
-    process-given (sheet-at k) (n-at k) (m-at k) (t-at k) (s-at k) (admitted-at k) (read .result) (read .ensures) (just (g .0 .0))
+    process-given (sheet-at k) (n-at k) (m-at k) (t-at k) (s-at k) (admitted-at k) (alphabets-at read) (read .alphabets2 .ensures) (just (g .0 .0))
     (ap offenceOf (sym (g .1)) ∙ d .first-offence .ensures)
 
 pub process-check-spec : {M : Type 1} → statement M
@@ -123,6 +133,7 @@ process-check-spec =
     sub-alphabets
     part-alphabets-start
     part-alphabets-end
+    slice-aggregate-alphabets
     alphabets-requires
     sub-first-offence
     part-first-offence-start

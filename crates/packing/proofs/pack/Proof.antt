@@ -9,9 +9,10 @@ use borrow.Author.Needs.{needs}
 use Rattle.sets.specs.Bits.{members}
 use Rattle.systems.specs.Checking.{flat}
 use Rattle.sheet.specs.Numbers.{number, parts}
-use Rattle.packing.specs.Levels.{OfSixteen, Packed}
+use Rattle.placing.specs.Placing.{OfSixteen}
+use Rattle.placing.proofs.Showing.{Remaining, remaining-none, part-known, part-bounded, remaining-rest}
+use Rattle.packing.specs.Packed.{Packed}
 use Rattle.packing.proofs.Dependences.{owners-sixteen, owners-all, owners-depends}
-use Rattle.packing.proofs.Showing.{Remaining, remaining-none, part-known, part-bounded, remaining-rest}
 use Rattle.packing.proofs.Sections.{flat-step, flat-none, remaining-all}
 use Rattle.packing.proofs.pack.Statement.{statement}
 use Rattle.packing.proofs.pack.Tie as tie

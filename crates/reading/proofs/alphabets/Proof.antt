@@ -47,8 +47,8 @@ number8-requires c κs = search needs
 mul-found : tie.Need-mul-found Inv-loop μ-loop
 mul-found c = search needs
 
-array-write-found : tie.Need-array-write-found Inv-loop μ-loop
-array-write-found c = search needs
+slice-write-found : tie.Need-slice-write-found Inv-loop μ-loop
+slice-write-found c = search needs
 
 add-j : tie.Need-add-j Inv-loop μ-loop
 add-j c = search needs
@@ -59,12 +59,15 @@ loop-less c = omega arith
 loop-again : tie.Need-loop-again Inv-loop μ-loop
 loop-again c =
     let l = c .before .before .loop in
-    let b = c .before .before .before .before .args .records .now in
+    let b = c .before .before .before .before .before .args .records .now in
     let x = c .number8 .result in (
       omega arith,
       length-set (l .found) (l .j) x ∙ l .inv .1,
       one-more (alphabetOf b) (l .found) (l .j) x (omega arith) (alphabet-field b (l .j) x (c .number8 .ensures)) (l .inv .2),
     )
+
+same-length : tie.Need-same-length Inv-loop μ-loop
+same-length c = search needs
 
 returns : tie.Need-returns Inv-loop μ-loop
 returns c =
@@ -82,8 +85,9 @@ alphabets-spec =
     add-number8
     number8-requires
     mul-found
-    array-write-found
+    slice-write-found
     add-j
     loop-less
     loop-again
+    same-length
     returns)

@@ -37,17 +37,16 @@ bad-record c = some (recordWrong (c .args .records .now) (c .args .m)) (below (c
 abbrev unused : tie.Start → Bool
 unused c = some (λ a. not (some (λ j. member (alphabetOf (c .args .records .now) j) a) (below (c .args .n)))) (below (c .args .m))
 
-abbrev bad-transition : tie.Start → Bool
-bad-transition c = some (transitionWrong (wanted c)) (wanted c .transitions)
+-- refusals 7 and 8
+abbrev bad-transitions : tie.Start → ℕ
+bad-transitions c =
+    numberIf (some (transitionWrong (wanted c)) (wanted c .transitions)) 7
+    (numberIf (not (risingBytes (parts 4 (length (c .args .section .now) / 4) (c .args .section .now)))) 8 0)
 
-abbrev unordered : tie.Start → Bool
-unordered c = not (risingBytes (parts 4 (length (c .args .section .now) / 4) (c .args .section .now)))
-
-decided : (c : tie.Start) (w x y z : Bool) → w ≡ bad-record c → x ≡ unused c → y ≡ bad-transition c → z ≡ unordered c
-    → numberIf w 5 (numberIf x 6 (numberIf y 7 (numberIf z 8 0)))
-    ≡ tablesNumber (c .args .records .now) (c .args .section .now) (c .args .n) (c .args .m)
+decided : (c : tie.Start) (w x : Bool) (rest : ℕ) → w ≡ bad-record c → x ≡ unused c → rest ≡ bad-transitions c
+    → numberIf w 5 (numberIf x 6 rest) ≡ tablesNumber (c .args .records .now) (c .args .section .now) (c .args .n) (c .args .m)
 unfolding tablesNumber
-decided c w x y z ew ex ey ez = rw (ew, ex, ey, ez)
+decided c w x rest ew ex er = rw (ew, ex, er)
 
 -- the same tables, with the alphabets of the array
 abbrev listed : Tables → List ℕ → Tables
@@ -65,20 +64,27 @@ misfit-listed : (T : Tables) (l : List ℕ) (t : Transition) → misfit (T .stat
 unfolding transitionWrong
 misfit-listed T l t = refl
 
-misfit-same : (T : Tables) (l : List ℕ) → Alphabets (T .alphabet) (T .components) l
-    → some (misfit (T .states) l (T .components)) (T .transitions) ≡ some (transitionWrong T) (T .transitions)
-misfit-same T l h =
-    some-same (misfit (T .states) l (T .components)) (transitionWrong T) (T .transitions)
-    (λ t k. misfit-listed T l t ∙ wrong-same (listed T l) T t refl (λ j b. (refl, h .each j b)))
+-- refusal 7 before what comes later, told of the array's alphabets
+told-same : (T : Tables) (l : List ℕ) (later x : ℕ) → Alphabets (T .alphabet) (T .components) l
+    → x ≡ numberIf (some (misfit (T .states) l (T .components)) (T .transitions)) 7 later
+    → x ≡ numberIf (some (transitionWrong T) (T .transitions)) 7 later
+told-same T l later x h e =
+    e
+    ∙ ap (λ (b : Bool). numberIf b 7 later)
+    (some-same (misfit (T .states) l (T .components)) (transitionWrong T) (T .transitions)
+    (λ t k. misfit-listed T l t ∙ wrong-same (listed T l) T t refl (λ j b. (refl, h .each j b))))
 
 records-wrong-requires : tie.Need-records-wrong-requires
 records-wrong-requires c κs = search needs
 
 returns : tie.Need-returns
-returns c = decided (c .before .before .before .before) true _ _ _ (sym (c .if1 .taken) ∙ c .before .records-wrong .ensures) refl refl refl
+returns c = decided (c .before .before .before .before) true _ _ (sym (c .if1 .taken) ∙ c .before .records-wrong .ensures) refl refl
 
 records-right : (c : tie.Else1) → false ≡ bad-record (c .before .before .before .before)
 records-right c = sym (c .if1 .left) ∙ c .before .records-wrong .ensures
+
+slice-aggregate-alphabets : tie.Need-slice-aggregate-alphabets
+slice-aggregate-alphabets c = search needs
 
 alphabets-requires : tie.Need-alphabets-requires
 alphabets-requires c κs = search needs
@@ -92,55 +98,36 @@ cast-action-unused c = search needs
 action-unused-requires : tie.Need-action-unused-requires
 action-unused-requires c κs = search needs
 
-unused-told : (c : tie.After-action-unused) → c .action-unused .result ≡ unused (c .before .before .before .before .before .before .before)
+-- the array as the call left it
+abbrev found : tie.After-alphabets → List ℕ
+found c = c .alphabets .last .1 .1 .0
+
+unused-told : (c : tie.After-action-unused)
+    → c .action-unused .result ≡ unused (c .before .before .before .before .before .before .before .before .before)
 unused-told c =
-    let s = c .before .before .before .before .before .before .before in
-    let found = c .before .before .alphabets in
-    c .action-unused .ensures ∙ unused-same (s .args .records .now) (s .args .n) (s .args .m) (found .result) (found .ensures)
+    let read = c .before .before .before in
+    let s = read .before .before .before .before .before .before in
+    c .action-unused .ensures ∙ unused-same (s .args .records .now) (s .args .n) (s .args .m) (found read) (read .alphabets .ensures)
 
 returns-2 : tie.Need-returns-2
 returns-2 c =
-    let right = c .before .before .before .before in
-    decided (right .before .before .before .before) false true _ _ (records-right right) (sym (c .if2 .taken) ∙ unused-told (c .before)) refl refl
+    let right = c .before .before .before .before .before .before in
+    decided (right .before .before .before .before) false true _ (records-right right) (sym (c .if2 .taken) ∙ unused-told (c .before)) refl
 
-slice-aggregate-transitions-wrong : tie.Need-slice-aggregate-transitions-wrong
-slice-aggregate-transitions-wrong c = search needs
+slice-aggregate-transitions-refused : tie.Need-slice-aggregate-transitions-refused
+slice-aggregate-transitions-refused c = search needs
 
-transitions-wrong-requires : tie.Need-transitions-wrong-requires
-transitions-wrong-requires c κs = search needs
-
-transitions-told : (c : tie.After-transitions-wrong)
-    → c .transitions-wrong .result ≡ bad-transition (c .before .before .before .before .before .before .before .before .before .before)
-transitions-told c =
-    let found = c .before .before .before .before .before .alphabets in
-    c .transitions-wrong .ensures
-    ∙ misfit-same (wanted (c .before .before .before .before .before .before .before .before .before .before)) (found .result) (found .ensures)
+transitions-refused-requires : tie.Need-transitions-refused-requires
+transitions-refused-requires c κs = search needs
 
 returns-3 : tie.Need-returns-3
 returns-3 c =
-    let used = c .before .before .before in
-    let right = used .before .before .before .before in
-    decided (right .before .before .before .before) false false true _ (records-right right) (sym (used .if2 .left) ∙ unused-told (used .before))
-    (sym (c .if3 .taken) ∙ transitions-told (c .before)) refl
-
-order-wrong-requires : tie.Need-order-wrong-requires
-order-wrong-requires c κs = search needs
-
--- the answer where refusals 5 to 7 do not hold
-last : (c : tie.Else3) (z : Bool) → z ≡ unordered (c .before .before .before .before .before .before .before .before .before .before .before)
-    → let a = c .before .before .before .before .before .before .before .before .before .before .before .args in
-    numberIf z 8 0 ≡ tablesNumber (a .records .now) (a .section .now) (a .n) (a .m)
-last c z e =
-    let used = c .before .before .before in
-    let right = used .before .before .before .before in
-    decided (right .before .before .before .before) false false false z (records-right right) (sym (used .if2 .left) ∙ unused-told (used .before))
-    (sym (c .if3 .left) ∙ transitions-told (c .before)) e
-
-returns-4 : tie.Need-returns-4
-returns-4 c = last (c .before .before) true (sym (c .if4 .taken) ∙ c .before .order-wrong .ensures)
-
-returns-5 : tie.Need-returns-5
-returns-5 c = last (c .before .before) false (sym (c .if4 .left) ∙ c .before .order-wrong .ensures)
+    let used = c .before .before in
+    let read = used .before .before .before .before in
+    let right = read .before .before in
+    let s = right .before .before .before .before in
+    decided s false false (c .transitions-refused .result) (records-right right) (sym (used .if2 .left) ∙ unused-told (used .before))
+    (told-same (wanted s) (found read) _ (c .transitions-refused .result) (read .alphabets .ensures) (c .transitions-refused .ensures))
 
 pub tables-refused-spec : {M : Type 1} → statement M
 tables-refused-spec =
@@ -148,14 +135,12 @@ tables-refused-spec =
     (tie.spec
     records-wrong-requires
     returns
+    slice-aggregate-alphabets
     alphabets-requires
     slice-aggregate-action-unused
     cast-action-unused
     action-unused-requires
     returns-2
-    slice-aggregate-transitions-wrong
-    transitions-wrong-requires
-    returns-3
-    order-wrong-requires
-    returns-4
-    returns-5)
+    slice-aggregate-transitions-refused
+    transitions-refused-requires
+    returns-3)

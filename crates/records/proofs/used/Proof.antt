@@ -8,7 +8,6 @@ use native.Mathlib.Omega.{arith}
 use lib.Bits.{bitOr}
 use lib.ListN.{getD}
 use borrow.Author.Needs.{needs}
-use Rattle.sets.specs.Lists.{some, below}
 use Rattle.sets.specs.Bits.{member}
 use Rattle.sets.proofs.Members.{member-zero, member-or}
 use Rattle.records.specs.Alphabets.{UsedBy}
@@ -16,27 +15,26 @@ use Rattle.records.proofs.Searching.{some-none, some-more}
 use Rattle.records.proofs.used.Statement.{statement}
 use Rattle.records.proofs.used.Tie as tie
 
--- the union of the first j sets of the list
-abbrev Union : List ℕ → ℕ → ℕ → Type 0
-Union l j all = (a : ℕ) → member all a ≡ some (λ i. member (getD l i 0) a) (below j)
+none-yet : (l : List ℕ) → UsedBy l 0 0
+none-yet l = record { exact = λ a. member-zero a ∙ sym (some-none (λ i. member (getD l i 0) a)) }
 
-one-more : (l : List ℕ) (j all : ℕ) → Union l j all → Union l (j + 1) (bitOr all (getD l j 0))
-one-more l j all h a =
-    member-or all (getD l j 0) a ∙ ap (λ (b : Bool). b || member (getD l j 0) a) (h a) ∙ sym (some-more (λ i. member (getD l i 0) a) j)
-
-union-used : (l : List ℕ) (n j all : ℕ) → j ≡ n → Union l j all → UsedBy l n all
-union-used l n j all e h =
-    let same : (a : ℕ) → member all a ≡ some (λ i. member (getD l i 0) a) (below n) = λ a. h a ∙ ap (λ (k : ℕ). some (λ i. member (getD l i 0) a) (below k)) e in
-    record { exact = λ a. (λ t. sym (same a) ∙ t, λ t. same a ∙ t) }
+one-more : (l : List ℕ) (j all : ℕ) → UsedBy l j all → UsedBy l (j + 1) (bitOr all (getD l j 0))
+one-more l j all h =
+    record {
+      exact =
+          λ a. member-or all (getD l j 0) a
+          ∙ ap (λ (b : Bool). b || member (getD l j 0) a) (h .exact a)
+          ∙ sym (some-more (λ i. member (getD l i 0) a) j);
+    }
 
 abbrev Inv-loop : tie.InvT-loop
-Inv-loop alphabets n all₀ j₀ all j = (j ≤ n) × Union alphabets j all
+Inv-loop alphabets n all₀ j₀ all j = (j ≤ n) × UsedBy alphabets j all
 
 abbrev μ-loop : tie.MeasureT-loop
 μ-loop alphabets n all₀ j₀ all j = n - j
 
 loop-holds : tie.Need-loop-holds Inv-loop μ-loop
-loop-holds c = (omega arith, λ a. member-zero a ∙ sym (some-none (λ i. member (getD (c .args .alphabets .now) i 0) a)))
+loop-holds c = (omega arith, none-yet (c .args .alphabets .now))
 
 mul-all : tie.Need-mul-all Inv-loop μ-loop
 mul-all c = search needs
@@ -59,7 +57,8 @@ returns : tie.Need-returns Inv-loop μ-loop
 returns c =
     let l = c .before .loop in
     let a = c .before .before .args in
-    union-used (a .alphabets .now) (a .n) (l .j) (l .all) (omega arith) (l .inv .1)
+    let last : l .j ≡ a .n = omega arith in
+    rw last at (l .inv .1)
 
 pub used-spec : {M : Type 1} → statement M
 used-spec =

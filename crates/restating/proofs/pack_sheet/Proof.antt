@@ -38,16 +38,26 @@ part-alphabets-start c = search needs
 part-alphabets-end : tie.Need-part-alphabets-end
 part-alphabets-end c = let r = admitted-at c in omega arith
 
+slice-aggregate-alphabets : tie.Need-slice-aggregate-alphabets
+slice-aggregate-alphabets c = search needs
+
 alphabets-requires : tie.Need-alphabets-requires
 alphabets-requires c κs =
-    let k = c .before in
-    (admitted-at k .n-high, records-long (sheet-at k) (n-at k) (actionCount (sheet-at k)) (16 * n-at k) (s-at k) (admitted-at k))
+    let k = c .before .before in (
+      admitted-at k .n-high,
+      records-long (sheet-at k) (n-at k) (actionCount (sheet-at k)) (16 * n-at k) (s-at k) (admitted-at k),
+      search needs,
+    )
+
+-- the array as the call left it
+abbrev found : tie.After-alphabets2 → List ℕ
+found c = c .alphabets2 .last .1 .1 .0
 
 sub-pack : tie.Need-sub-pack
-sub-pack c = let r = admitted-at (c .before .before) in omega arith
+sub-pack c = let r = admitted-at (c .before .before .before .before) in omega arith
 
 part-pack-start : tie.Need-part-pack-start
-part-pack-start c = let r = admitted-at (c .before .before) in omega arith
+part-pack-start c = let r = admitted-at (c .before .before .before .before) in omega arith
 
 part-pack-end : tie.Need-part-pack-end
 part-pack-end c = search needs
@@ -57,13 +67,13 @@ slice-aggregate-pack c = search needs
 
 pack-requires : tie.Need-pack-requires
 pack-requires c κs =
-    let k = c .before .before .before .before .before in
-    let read = c .before .before .before .alphabets in (
+    let read = c .before .before .before .before in
+    let k = read .before .before .before in (
       admitted-at k .n-high,
-      read .ensures .size,
+      read .alphabets2 .ensures .size,
       k .before .before .pre .1,
       section-few (sheet-at k) (n-at k) (actionCount (sheet-at k)) (16 * n-at k) (s-at k) (admitted-at k),
-      known-section (sheet-at k) (n-at k) (actionCount (sheet-at k)) (16 * n-at k) (s-at k) (admitted-at k) (read .result) (read .ensures),
+      known-section (sheet-at k) (n-at k) (actionCount (sheet-at k)) (16 * n-at k) (s-at k) (admitted-at k) (found read) (read .alphabets2 .ensures),
     )
 
 same-length : tie.Need-same-length
@@ -71,10 +81,10 @@ same-length c = search needs
 
 returns : tie.Need-returns
 returns c =
-    let k = c .before .before .before .before .before .before .before .before in
-    let read = c .before .before .before .before .before .before .alphabets in
+    let read = c .before .before .before .before .before .before .before in
+    let k = read .before .before .before in
     let made = c .before .before .pack in
-    packed-told (sheet-at k) (n-at k) (actionCount (sheet-at k)) (16 * n-at k) (s-at k) (admitted-at k) (read .result) (read .ensures)
+    packed-told (sheet-at k) (n-at k) (actionCount (sheet-at k)) (16 * n-at k) (s-at k) (admitted-at k) (found read) (read .alphabets2 .ensures)
     (made .last .1 .1 .1 .0) (made .result) (made .ensures)
 
 pub pack-sheet-spec : {M : Type 1} → statement M
@@ -86,6 +96,7 @@ pack-sheet-spec =
     sub-alphabets
     part-alphabets-start
     part-alphabets-end
+    slice-aggregate-alphabets
     alphabets-requires
     sub-pack
     part-pack-start

@@ -4,7 +4,8 @@ use mathlib.Core.Path.{sym, ap}
 use borrow.Author.Needs.{needs}
 use Rattle.figures.specs.declared.Figure.{Figure}
 use Rattle.figures.specs.Figures.{figureOf}
-use Rattle.values.specs.Numbers.{answerTold, itself}
+use Rattle.filling.specs.Handing.{itself}
+use Rattle.values.specs.Numbers.{answerTold}
 use Rattle.values.proofs.figure_told.Statement.{statement}
 use Rattle.values.proofs.figure_told.Tie as tie
 

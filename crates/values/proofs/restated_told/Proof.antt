@@ -2,9 +2,10 @@
 -- Assumes nothing.
 use mathlib.Core.Path.{sym, ap}
 use borrow.Author.Needs.{needs}
-use Rattle.desk.specs.declared.Restated.{Restated}
-use Rattle.desk.specs.Calls.{restatedOf}
-use Rattle.values.specs.Numbers.{answerTold, itself}
+use Rattle.rewriting.specs.declared.Restated.{Restated}
+use Rattle.rewriting.specs.Calls.{restatedOf}
+use Rattle.filling.specs.Handing.{itself}
+use Rattle.values.specs.Numbers.{answerTold}
 use Rattle.values.proofs.restated_told.Statement.{statement}
 use Rattle.values.proofs.restated_told.Tie as tie
 

@@ -1,0 +1,2 @@
+pub mod RestatingAnswers
+pub mod Demands
