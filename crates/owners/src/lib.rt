@@ -1,7 +1,7 @@
 // The alphabets turned round: which components have an action.
 ghost use mathlib.Core.Path.{_≡_};
 ghost use Prim.Native.Nat.{_<_, _≤_};
-ghost use lib.ListN.{length, getD};
+ghost use lib.ListN.{length, getD, replicate};
 ghost use Rattle.owners.specs.Owners.{Owners, Entered};
 
 // Enters component j for each action of its alphabet.
@@ -17,16 +17,14 @@ fn enter(alphabet: u64, j: u32, found: &mut [u64])
     }
 }
 
-// The components of each action, by n alphabets.
-pub fn owners_of(alphabets: &[u64], n: usize) -> [u64; 64]
-    requires { ⌜ (n ≤ 16) × (n ≤ length (now alphabets)) ⌝ }
-    ensures { λ r. ⌜ Owners (λ j. getD (now (alphabets .entry)) j 0) n r ⌝ }
+// The components of each action, by n alphabets, into an array of zeros.
+pub fn owners_of(alphabets: &[u64], n: usize, found: &mut [u64])
+    requires { ⌜ (n ≤ 16) × (n ≤ length (now alphabets)) × (now found ≡ replicate 64 0) ⌝ }
+    ensures { λ _. ⌜ Owners (λ j. getD (now (alphabets .entry)) j 0) n (now (found .exit)) ⌝ }
 {
-    let mut found = [0u64; 64];
     let mut j = 0;
     while j < n {
-        enter(alphabets[j], j as u32, &mut found);
+        enter(alphabets[j], j as u32, found);
         j += 1;
     }
-    found
 }

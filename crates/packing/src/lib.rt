@@ -17,7 +17,8 @@ pub fn pack(section: &[u8], alphabets: &[u64], n: usize, packed: &mut [u64]) -> 
         (flat (map number (parts 8 (length (now (section .entry)) / 8) (now (section .entry))))) (now (packed .exit)) r ⌝ }
 {
     let count = section.len() / 8;
-    let owners = owners::owners_of(alphabets, n);
+    let mut owners = [0u64; 64];
+    owners::owners_of(alphabets, n, &mut owners);
     let mut last = [0usize; 16];
     let mut steps = 0;
     let mut k = 0;

@@ -91,11 +91,17 @@ fn order_wrong(section: &[u8]) -> bool
     ensures { λ r. ⌜ r ≡ not (risingBytes (parts 4 (length (now (section .entry)) / 4) (now (section .entry)))) ⌝ }
 {
     let count = section.len() / 4;
+    if count == 0 {
+        return false;
+    }
+    let mut last = key(section, 0);
     let mut k = 1;
     while k < count {
-        if key(section, 4 * k) <= key(section, 4 * k - 4) {
+        let read = key(section, 4 * k);
+        if read <= last {
             return true;
         }
+        last = read;
         k += 1;
     }
     false

@@ -1,9 +1,9 @@
 -- `owners::owners_of` meets its contract. The loop's invariant: the components below j have been entered.
 -- Assumes nothing.
-use mathlib.Core.Path.{_≡_, refl, subst}
+use mathlib.Core.Path.{_≡_, sym, ap, subst, _∙_}
 use Prim.Native.Nat.{ℕ, _-_, _≤_}
 use native.Mathlib.Omega.{arith}
-use lib.ListN.{getD}
+use lib.ListN.{length, getD}
 use borrow.Author.Needs.{needs}
 use Rattle.owners.specs.Owners.{Owners}
 use Rattle.owners.proofs.Entering.{owners-none, owners-more}
@@ -17,7 +17,7 @@ abbrev μ-loop : tie.MeasureT-loop
 μ-loop alphabets n found₀ j₀ found j = n - j
 
 loop-holds : tie.Need-loop-holds Inv-loop μ-loop
-loop-holds c = (search needs, owners-none _ _ refl)
+loop-holds c = (search needs, owners-none _ _ (c .before .before .pre .2))
 
 mul-enter : tie.Need-mul-enter Inv-loop μ-loop
 mul-enter c = search needs
@@ -28,11 +28,8 @@ shared-slice-read-enter c = search needs
 cast-enter : tie.Need-cast-enter Inv-loop μ-loop
 cast-enter c = search needs
 
-slice-aggregate-enter : tie.Need-slice-aggregate-enter Inv-loop μ-loop
-slice-aggregate-enter c = search needs
-
 enter-requires : tie.Need-enter-requires Inv-loop μ-loop
-enter-requires c κs = search needs
+enter-requires c κs = (c .before .before .before .loop .inv .1 .size, omega arith)
 
 add-j : tie.Need-add-j Inv-loop μ-loop
 add-j c = search needs
@@ -42,13 +39,16 @@ loop-less c = search needs
 
 loop-again : tie.Need-loop-again Inv-loop μ-loop
 loop-again c =
-    let turn = c .before .before .before .before .before .loop in
-    (omega arith, owners-more _ (turn .j) _ (omega arith) (turn .found) _ (turn .inv .1) (c .before .enter .ensures))
+    let turn = c .before .before .before .before .before .before .loop in
+    (omega arith, owners-more _ (turn .j) _ (omega arith) (turn .found) _ (turn .inv .1) (c .before .before .enter .ensures))
+
+same-length : tie.Need-same-length Inv-loop μ-loop
+same-length c = c .before .loop .inv .1 .size ∙ sym (ap length (c .before .before .before .before .pre .2))
 
 returns : tie.Need-returns Inv-loop μ-loop
 returns c =
     let turn = c .before .loop in
-    let start = c .before .before .before .args in
+    let start = c .before .before .before .before .args in
     let all : turn .j ≡ start .n = omega arith in
     subst (λ (k : ℕ). Owners (λ j. getD (start .alphabets .now) j 0) k (turn .found)) all (turn .inv .1)
 
@@ -62,9 +62,9 @@ owners-of-spec =
     mul-enter
     shared-slice-read-enter
     cast-enter
-    slice-aggregate-enter
     enter-requires
     add-j
     loop-less
     loop-again
+    same-length
     returns)

@@ -27,16 +27,19 @@ Inv-loop section alphabets n packed₀ count owners last₀ steps₀ k₀ packed
 abbrev μ-loop : tie.MeasureT-loop
 μ-loop section alphabets n packed₀ count owners last₀ steps₀ k₀ packed last steps k = count - k
 
+slice-aggregate-owners-of : tie.Need-slice-aggregate-owners-of Inv-loop μ-loop
+slice-aggregate-owners-of c = search needs
+
 owners-of-requires : tie.Need-owners-of-requires Inv-loop μ-loop
 owners-of-requires c κs = search needs
 
 loop-holds : tie.Need-loop-holds Inv-loop μ-loop
 loop-holds c =
-    let start = c .before .before .before .before in
+    let start = c .before .before .before .before .before .before in
     let l = start .args .alphabets .now in
     let n = start .args .n in
-    let owned = c .owners-of .ensures in
-    let fit : (j : ℕ) → getD l j 0 < 2 ^ 64 = λ j. c .before .before .shared-slice-known2 .given j .fits in (
+    let owned = c .before .owners-of .ensures in
+    let fit : (j : ℕ) → getD l j 0 < 2 ^ 64 = λ j. c .before .before .before .before .shared-slice-known2 .given j .fits in (
       omega arith,
       owners-sixteen l n _ owned (start .pre .0) fit,
       remaining-all _ _ (start .args .packed .now) (start .pre .2) l n (owners-depends l n _ owned (start .pre .0) fit)
@@ -54,7 +57,7 @@ slice-aggregate-place-step-2 c = sym (c .before .before .before .before .loop .i
 
 place-step-requires : tie.Need-place-step-requires Inv-loop μ-loop
 place-step-requires c κs =
-    let b = c .before .before .before .before .before .before .before .before .before .before .args .section .now in
+    let b = c .before .before .before .before .before .before .before .before .before .before .before .before .args .section .now in
     let turn = c .before .before .before .before .before .loop in
     let step = c .before .before .step-at in
     let e = flat-step 8 (length b / 8) b (turn .k) (step .result) (c .before .before .before .before .loop-test .taken) (step .ensures) in
@@ -74,7 +77,7 @@ loop-less c = omega arith
 
 loop-again : tie.Need-loop-again Inv-loop μ-loop
 loop-again c =
-    let b = c .before .before .before .before .before .before .before .before .before .before .before .before .before .before .args .section .now in
+    let b = c .before .before .before .before .before .before .before .before .before .before .before .before .before .before .before .before .args .section .now in
     let turn = c .before .before .before .before .before .before .before .before .before .loop in
     let step = c .before .before .before .before .before .before .step-at in
     let e = flat-step 8 (length b / 8) b (turn .k) (step .result) (c .before .before .before .before .before .before .before .before .loop-test .taken) (step .ensures) in
@@ -87,11 +90,11 @@ loop-again c =
 
 same-length : tie.Need-same-length Inv-loop μ-loop
 same-length c =
-    c .before .loop .inv .2 .packed-size ∙ sym (ap length (c .before .before .before .before .before .before .pre .2) ∙ length-replicate {A = ℕ} 1024 0)
+    c .before .loop .inv .2 .packed-size ∙ sym (ap length (c .before .before .before .before .before .before .before .before .pre .2) ∙ length-replicate {A = ℕ} 1024 0)
 
 returns : tie.Need-returns Inv-loop μ-loop
 returns c =
-    let b = c .before .before .before .before .before .before .args .section .now in
+    let b = c .before .before .before .before .before .before .before .before .args .section .now in
     remaining-none _ _ _ _ _ _ (flat-none 8 (length b / 8) b (c .before .loop .k) (c .loop-test .left)) (c .before .loop .inv .2)
 
 pub pack-spec : {M : Type 1} → statement M
@@ -100,6 +103,7 @@ pack-spec =
     (tie.spec
     Inv-loop
     μ-loop
+    slice-aggregate-owners-of
     owners-of-requires
     loop-holds
     slice-aggregate-place-step
