@@ -7,16 +7,16 @@ use mathlib.Core.Bool.{Bool, true, false}
 use mathlib.Core.List.{List, [], _∷_, List·Memᴰ, List·Memᴰ·head, List·Memᴰ·tail}
 use Prim.Native.Nat.{ℕ, _≤_, _<_, max}
 use native.Mathlib.Omega.{arith}
-use lib.Dec.{eqb}
 use lib.ListN.{getD}
 use Rattle.sets.specs.Lists.{some}
 use Rattle.sets.specs.Bits.{members}
-use Rattle.sets.proofs.Bools.{iff-bool, or-true, eqb-true}
+use Rattle.sets.proofs.Bools.{iff-bool}
 use Rattle.sets.proofs.Lists.{some-intro, some-elim, none-false}
 use Rattle.sets.proofs.Members.{members-mem, member-some, member-lt}
 use Rattle.traces.specs.Words.{Dependence}
 use Rattle.traces.specs.Foata.{further, reach}
 use Rattle.traces.proofs.Reach.{reach-or}
+use Rattle.traces.proofs.Sharing.{equal-or, sharing-dependence}
 use Rattle.levels.specs.Levels.{largest}
 use Rattle.placing.specs.Placing.{owns, dependentOn, OfSixteen}
 
@@ -38,29 +38,10 @@ module _ (o : List ℕ) where
 
   pub depends-cases : (a b : ℕ) → (dependentOn o a b ≡ true) ↔ ((a ≡ b) ⊎ Common o a b)
   unfolding dependentOn
-  depends-cases a b = (λ h. split (or-true (eqb a b) (some (λ j. owns o j b) (members (getD o a 0))) .0 h), join)
-    where
-      split : (eqb a b ≡ true) ⊎ (some (λ j. owns o j b) (members (getD o a 0)) ≡ true) → (a ≡ b) ⊎ Common o a b
-      split (inl e) = inl (eqb-true a b .0 e)
-      split (inr e) = inr (common-exact a b .0 e)
-
-      join : (a ≡ b) ⊎ Common o a b → dependentOn o a b ≡ true
-      join (inl e) = or-true (eqb a b) (some (λ j. owns o j b) (members (getD o a 0))) .1 (inl (eqb-true a b .1 e))
-      join (inr s) = or-true (eqb a b) (some (λ j. owns o j b) (members (getD o a 0))) .1 (inr (common-exact a b .1 s))
-
-  turned : (a b : ℕ) → dependentOn o a b ≡ true → dependentOn o b a ≡ true
-  turned a b h = depends-cases b a .1 (turn (depends-cases a b .0 h))
-    where
-      turn : (a ≡ b) ⊎ Common o a b → (b ≡ a) ⊎ Common o b a
-      turn (inl e) = inl (sym e)
-      turn (inr s) = inr (s .0, s .1, s .3, s .2)
+  depends-cases a b = equal-or a b (some (λ j. owns o j b) (members (getD o a 0))) (Common o a b) (common-exact a b)
 
   pub depends-laws : Dependence (dependentOn o)
-  depends-laws =
-      record {
-        reflexive = λ a. depends-cases a a .1 (inl refl);
-        symmetric = λ a b. iff-bool (dependentOn o a b) (dependentOn o b a) (turned a b, turned b a);
-      }
+  depends-laws = sharing-dependence (dependentOn o) (Common o) depends-cases (λ a b s. (s .0, s .1, s .3, s .2))
 
 -- ---- the level
 

@@ -1,4 +1,5 @@
 pub mod Swaps
+pub mod Sharing
 pub mod Insert
 pub mod Reach
 pub mod Placing

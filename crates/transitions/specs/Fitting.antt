@@ -8,16 +8,15 @@ use lib.ListN.{getD}
 use Rattle.sets.specs.Bits.{member}
 use Rattle.systems.specs.Tables.{Transition, internal}
 
--- 7, with the state counts as they stand in the records and the alphabets in a list
-abbrev pub misfit : (ℕ → ℕ) → List ℕ → ℕ → Transition → Bool
-misfit states l n t =
-    leb n (t .component) || leb (states (t .component)) (t .source) || leb (states (t .component)) (t .target)
-    || not (eqb (t .label) internal || member (getD l (t .component) 0) (t .label))
-
--- the same but for the component's own number, of a component with so many states and this alphabet
+-- 7, of a component with so many states and this alphabet: "its source or target is not below that state count, or its label is neither
+-- 255 nor in that alphabet"
 abbrev pub unfit : ℕ → ℕ → Transition → Bool
 unfit states alphabet t =
     leb states (t .source) || leb states (t .target) || not (eqb (t .label) internal || member alphabet (t .label))
+
+-- 7, with the state counts as they stand in the records and the alphabets in a list: "a transition's component is not below n", or so
+abbrev pub misfit : (ℕ → ℕ) → List ℕ → ℕ → Transition → Bool
+misfit states l n t = leb n (t .component) || unfit (states (t .component)) (getD l (t .component) 0) t
 
 -- a byte string as one number, the first byte heaviest
 abbrev pub heavyFrom : ℕ → List ℕ → ℕ

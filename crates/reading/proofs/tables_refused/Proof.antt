@@ -1,9 +1,10 @@
 -- `reading::tables_refused` meets its contract: the checkers' answers, in their order, are the refusals 5 to 8 of the two parts.
 -- The alphabets in the array are those of the records below their number. Assumes nothing.
 use mathlib.Core.Path.{_≡_, refl, sym, ap, _∙_}
-use mathlib.Core.Bool.{Bool, true, false, not}
+use mathlib.Core.Bool.{Bool, true, false, not, _||_}
 use mathlib.Core.List.{List}
 use Prim.Native.Nat.{ℕ, _/_}
+use lib.Dec.{leb}
 use lib.ListN.{length, getD}
 use Rattle.sets.specs.Lists.{some, below}
 use Rattle.sets.specs.Bits.{member}
@@ -60,9 +61,13 @@ listed T l =
       transitions = T .transitions;
     }
 
+regrouped : (p q r s : Bool) → (p || ((q || r) || s)) ≡ (((p || q) || r) || s)
+regrouped true q r s = refl
+regrouped false q r s = refl
+
 misfit-listed : (T : Tables) (l : List ℕ) (t : Transition) → misfit (T .states) l (T .components) t ≡ transitionWrong (listed T l) t
 unfolding transitionWrong
-misfit-listed T l t = refl
+misfit-listed T l t = regrouped (leb (T .components) (t .component)) _ _ _
 
 -- refusal 7 before what comes later, told of the array's alphabets
 told-same : (T : Tables) (l : List ℕ) (later x : ℕ) → Alphabets (T .alphabet) (T .components) l

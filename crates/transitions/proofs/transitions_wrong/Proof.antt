@@ -43,11 +43,11 @@ states-at : (b : List ℕ) (j : ℕ) → getD b (16 * j) 0 ≡ statesOf b j
 unfolding statesOf
 states-at b j = sym (field-one (16 * j) b)
 
-first : (p q r s : Bool) → p ≡ true → true ≡ (((p || q) || r) || s)
-first p q r s e = rw e
+first : (p q : Bool) → p ≡ true → true ≡ (p || q)
+first p q e = rw e
 
-others : (p q r s : Bool) → p ≡ false → ((q || r) || s) ≡ (((p || q) || r) || s)
-others p q r s e = rw e
+other : (p q : Bool) → p ≡ false → q ≡ (p || q)
+other p q e = rw e
 
 module _ (records l : List ℕ) (n component j states alphabet : ℕ) where
   loaded : component < n → j ≡ component → states ≡ getD records (16 * component) 0 → alphabet ≡ getD l component 0
@@ -72,14 +72,14 @@ module _ (records l section : List ℕ) (n at : ℕ) where
   told = ap (misfit (statesOf records) l n) (transition-at section at)
 
   component-wrong : n ≤ component → true ≡ answer
-  component-wrong h = first (leb n component) _ _ _ (leb-true n component .1 h) ∙ told
+  component-wrong h = first (leb n component) _ (leb-true n component .1 h) ∙ told
 
   carried-told : (j states alphabet : ℕ) → (j ≡ component) × Carried records l n j states alphabet
       → unfit states alphabet (transitionOf (take 4 (drop at section))) ≡ answer
   carried-told j states alphabet h =
       sym (ap (unfit states alphabet) (transition-at section at))
       ∙ ap₂ (λ (s a : ℕ). unfit s a (standing section at)) (h .1 .1 ∙ ap (statesOf records) (h .0)) (h .1 .2 ∙ ap (λ (i : ℕ). getD l i 0) (h .0))
-      ∙ others (leb n component) _ _ _ (leb-false n component .1 (omega arith))
+      ∙ other (leb n component) _ (leb-false n component .1 (omega arith))
       ∙ told
 
 abbrev Inv-loop : tie.InvT-loop
