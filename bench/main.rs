@@ -33,25 +33,25 @@ const STRETCH: u128 = 200_000;
 fn proved_check(sheet: &[u8], _: &mut [u8]) -> u64 {
     let mut answer = [0u64; 5];
     let told = unsafe { oatmist_check(sheet, &mut answer) };
-    told ^ black_box(answer)[0]
+    told ^ black_box(&answer)[0]
 }
 
 fn proved_restate(sheet: &[u8], out: &mut [u8]) -> u64 {
     let mut answer = [0u64; 1];
     let told = unsafe { oatmist_restate(sheet, out, &mut answer) };
-    told ^ black_box(answer)[0]
+    told ^ black_box(&answer)[0]
 }
 
 fn plain_check(sheet: &[u8], _: &mut [u8]) -> u64 {
     let mut answer = [0u64; 5];
     let told = fast::check(sheet, &mut answer);
-    told ^ black_box(answer)[0]
+    told ^ black_box(&answer)[0]
 }
 
 fn plain_restate(sheet: &[u8], out: &mut [u8]) -> u64 {
     let mut answer = [0u64; 1];
     let told = fast::restate(sheet, out, &mut answer);
-    told ^ black_box(answer)[0]
+    told ^ black_box(&answer)[0]
 }
 
 type Call = fn(&[u8], &mut [u8]) -> u64;
@@ -415,6 +415,26 @@ fn tables() -> Vec<Table> {
     made
 }
 
+/// Typical, large and worst sheets among the lines of the first table.
+const MARKED: [(&str, &str); 5] = [
+    ("typical: Pair", "Pair of the paper, 94 bytes"),
+    ("typical: small", "small: n 2-4, 5-20 actions"),
+    ("typical: middle", "middle: n 5-9, 50-150 actions"),
+    ("large", "largest, action in 2 components, steps of 8"),
+    ("worst", "largest, action in all 16, single steps"),
+];
+
+/// Marks a second; a mark is one call that restates, which checks first.
+fn print_marks(rows: &[Row]) {
+    println!("\n| Sheets | marks a second, proved | marks a second, plain | ratio |");
+    println!("|---|---:|---:|---:|");
+    for (label, name) in MARKED {
+        let row = rows.iter().find(|row| row.name == name).expect(name);
+        let [_, _, proved, plain] = row.times.map(|time| 1e9 / time);
+        println!("| {label} | {proved:.0} | {plain:.0} | {:.2} |", proved / plain);
+    }
+}
+
 /// Rounds of a line before it is the next line's turn.
 const AT_ONCE: usize = 20;
 
@@ -442,6 +462,7 @@ fn main() {
             }
         }
     }
+    print_marks(&tables[0].1);
     for (name, rows) in &tables {
         println!("\n| {name} | check proved, ns | check plain, ns | ratio | restate proved, ns | restate plain, ns | ratio |");
         println!("|---|---:|---:|---:|---:|---:|---:|");

@@ -1,3 +1,4 @@
 pub mod Arrays
 pub mod EndAnswers
+pub mod Parts
 pub mod ProcessAnswers

@@ -6,6 +6,7 @@ ghost use Prim.Native.Nat.{_≤_};
 ghost use lib.ListN.{length};
 ghost use Rattle.sets.specs.Lists.{below};
 ghost use Rattle.desk.specs.Calls.{keptOf, notProcess, CheckRight, EndSetsRight, ProcessRight};
+use engine::Ran;
 use offences::Offence;
 use reading::Reading;
 
@@ -47,29 +48,47 @@ fn first_sets(held: &[u64], n: usize) -> [u64; 16]
     sets
 }
 
-// The verdict on a sheet: accepted with its sizes, or refused with number and step index.
+// The verdict on a sheet: accepted with its sizes, or refused with number and step index. The sheet is handed on as a part, whose bounds are
+// in registers; the bounds of the sheet itself would be copied in memory.
 pub fn check(sheet: &[u8]) -> Reading
     ensures { λ r. ⌜ CheckRight (now (sheet .entry)) r ⌝ }
 {
+    let read = reading::read_trailer(sheet);
+    let Reading::Accepted { n, m, t, s } = read else {
+        return read;
+    };
+    let mut owners = [0u64; 64];
     let mut held = [0u64; 16];
-    marking::mark_sheet(sheet, &mut held)
+    let ran = marking::mark_tables(&sheet[0..], n, m, t, s, &mut owners, &mut held);
+    let Ran::Faulty { number, index } = ran else {
+        return read;
+    };
+    Reading::Refused { number, index }
 }
 
 // The end sets of a sheet: where each component may be after the last step.
 pub fn end_sets(sheet: &[u8]) -> EndSets
     ensures { λ r. ⌜ EndSetsRight (now (sheet .entry)) r ⌝ }
 {
-    let mut held = [0u64; 16];
-    let read = marking::mark_sheet(sheet, &mut held);
+    let read = reading::read_trailer(sheet);
     let Reading::Accepted { n, m, t, s } = read else {
         return EndSets {
             reading: read,
             sets: [0u64; 16],
         };
     };
+    let mut owners = [0u64; 64];
+    let mut held = [0u64; 16];
+    let ran = marking::mark_tables(&sheet[0..], n, m, t, s, &mut owners, &mut held);
+    let Ran::Faulty { number, index } = ran else {
+        return EndSets {
+            reading: read,
+            sets: first_sets(&held, n),
+        };
+    };
     EndSets {
-        reading: read,
-        sets: first_sets(&held, n),
+        reading: Reading::Refused { number, index },
+        sets: [0u64; 16],
     }
 }
 

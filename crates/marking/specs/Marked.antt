@@ -1,17 +1,19 @@
--- A marked sheet: the verdict, and the end sets of an accepted one in an array.
+-- A marked sheet: the fault that it is refused for, and of an accepted one the end sets and the components of each action in arrays.
 -- Assumes nothing.
 use mathlib.Core.Path.{_≡_}
 use mathlib.Core.List.{List}
 use Prim.Native.Nat.{ℕ, _<_}
 use lib.ListN.{length, getD}
-use Rattle.sheet.specs.Layout.{componentCount}
-use Rattle.sheet.specs.Verdict.{verdict, Accepted}
-use Rattle.reading.specs.declared.Reading.{Reading}
-use Rattle.reading.specs.Reading.{readingOf}
+use Rattle.sheet.specs.Layout.{componentCount, tables}
+use Rattle.sheet.specs.Verdict.{ofFault, verdict, Accepted}
+use Rattle.owners.specs.Owners.{Owners}
+use Rattle.engine.specs.declared.Ran.{Ran}
+use Rattle.engine.specs.Ran.{faultOf}
 use Rattle.answers.specs.EndSets.{endSet}
 
--- the answer r on the sheet b, and the array `held` afterwards
-pub record MarkedRight (b : List ℕ) (r : Reading) (held : List ℕ) : Type 0 where
+-- the answer r on the sheet b, whose trailer passed, and the arrays afterwards
+pub record MarkedRight (b : List ℕ) (r : Ran) (owners held : List ℕ) : Type 0 where
   pub size : length held ≡ 16
-  pub verdict-told : r ≡ readingOf b (verdict b)
+  pub verdict-told : verdict b ≡ ofFault (faultOf r)
   pub ends : Accepted b → (j : ℕ) → j < componentCount b → getD held j 0 ≡ endSet b j
+  pub owned : Accepted b → Owners (tables b .alphabet) (componentCount b) owners

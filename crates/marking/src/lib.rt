@@ -1,24 +1,37 @@
-// A sheet marked: read, its steps run, and the verdict on it.
+// A sheet marked, once its trailer passed: its tables read, its steps run.
 ghost use mathlib.Core.Path.{_≡_};
-ghost use lib.ListN.{length};
+ghost use lib.ListN.{length, replicate};
+ghost use Rattle.reading.specs.Reading.{Trailed};
 ghost use Rattle.marking.specs.Marked.{MarkedRight};
 use engine::Ran;
-use reading::Reading;
 
-// The verdict on a sheet: accepted with its sizes, or refused with number and step index. Of an accepted sheet the first sets held are
-// the end sets of its components.
-pub fn mark_sheet(sheet: &[u8], held: &mut [u64]) -> Reading
-    requires { ⌜ length (now held) ≡ 16 ⌝ }
-    ensures { λ r. ⌜ MarkedRight (now (sheet .entry)) r (now (held .exit)) ⌝ }
+// Refusals 5 to 12 of a sheet whose trailer passed: the first fault, or none. Of an accepted sheet the first sets held are the end sets of
+// its components, and `owners`, which comes with zeros, has the components of each action. The fault is taken apart and put together: copied
+// whole, it would be read before all of it is written.
+pub fn mark_tables(
+    sheet: &[u8],
+    n: usize,
+    m: usize,
+    t: usize,
+    s: usize,
+    owners: &mut [u64],
+    held: &mut [u64],
+) -> Ran
+    requires { ⌜ Trailed (now sheet) n m t s × (now owners ≡ replicate 64 0) × (length (now held) ≡ 16) ⌝ }
+    ensures { λ r. ⌜ MarkedRight (now (sheet .entry)) r (now (owners .exit)) (now (held .exit)) ⌝ }
 {
-    let read = reading::read_sheet(sheet);
-    let Reading::Accepted { n, m, t, s } = read else {
-        return read;
-    };
+    let mut alphabets = [0u64; 16];
+    let read = reading::read_tables(sheet, n, m, t, s, &mut alphabets);
+    if read != 0 {
+        return Ran::Faulty {
+            number: read,
+            index: 0,
+        };
+    }
     let end = sheet.len() - 10;
-    let ran = running::run_from_start(&sheet[..s], &sheet[s..end], n, m, held);
+    let ran = running::run_from_start(&sheet[..s], &sheet[s..end], n, m, &alphabets, owners, held);
     let Ran::Faulty { number, index } = ran else {
-        return read;
+        return Ran::Done;
     };
-    Reading::Refused { number, index }
+    Ran::Faulty { number, index }
 }

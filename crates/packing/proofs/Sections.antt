@@ -1,21 +1,19 @@
 -- The actions of a step section, step by step, and what the arrays show before the first step and once nothing is left.
 -- Assumes nothing.
 use mathlib.Core.Path.{_≡_, refl, sym, ap, ap₂, _∙_}
-use mathlib.Core.Bool.{Bool}
 use mathlib.Core.List.{List, [], _++_, map}
-use Prim.Native.Nat.{ℕ, _+_, _-_, _*_, _≤_, _<_}
+use Prim.Native.Nat.{ℕ, _+_, _*_, _≤_, _<_}
 use native.Mathlib.Numerals.{add-one}
 use native.Mathlib.Omega.{arith}
 use lib.ListN.{length, getD, drop, replicate, length-map, length-replicate, getD-replicate, drop-of-length-le, List·getD-map}
 use lib.Seq.{drop-cons}
-use Rattle.sets.specs.Bits.{members, setOf}
-use Rattle.traces.specs.Foata.{foata}
+use Rattle.sets.specs.Bits.{members}
 use Rattle.systems.specs.Checking.{flat}
 use Rattle.sheet.specs.Numbers.{number, field, parts}
 use Rattle.sheet.proofs.Numbers.{parts-length, parts-at, number-part}
-use Rattle.placing.specs.Placing.{dependentOn, AllOwned, Shows, Placed}
+use Rattle.placing.specs.Placing.{dependentOn, AllOwned, Shows}
 use Rattle.placing.proofs.Showing.{Remaining}
-use Rattle.packing.specs.Packed.{dependentBy, Packed}
+use Rattle.packing.specs.Packed.{Packed}
 
 module _ (size count : ℕ) (b : List ℕ) where
   -- the numbers of the parts
@@ -40,26 +38,18 @@ module _ (size count : ℕ) (b : List ℕ) where
   pub flat-none : (k : ℕ) → count ≤ k → flat (drop k numbers) ≡ []
   flat-none k h = ap flat (drop-of-length-le numbers {i = k} (let q = numbers-length in omega arith))
 
-module _ (o w packed : List ℕ) (empty : packed ≡ replicate 1024 0) (l : List ℕ) (n : ℕ) (same : dependentOn o ≡ dependentBy l n) where
+module _ (o w packed : List ℕ) (empty : packed ≡ replicate 1024 0) where
   -- zeros show no steps
   shows-none : Shows o [] (replicate 16 0) packed 0
   shows-none = record { counted = refl; few = omega arith; packed-sets = empty; last-steps = λ j h. getD-replicate 16 j 0 0 h }
 
-  pub remaining-all : AllOwned o w → length w ≤ 1024 → Remaining o w (replicate 16 0) packed 0 (λ last′ packed′ count′. Packed l n w packed′ count′)
+  pub remaining-all : AllOwned o w → length w ≤ 1024
+      → Remaining o w (replicate 16 0) packed 0 (λ last′ packed′ count′. Packed (dependentOn o) w packed′ count′)
   remaining-all known few =
       record {
         last-size = refl;
         packed-size = ap length empty ∙ length-replicate {A = ℕ} 1024 0;
         known = known;
         bounded = record { steps = []; shows = shows-none; room = omega arith };
-        finish = done;
+        finish = λ last′ packed′ count′ P. let S = P .shown [] shows-none in record { counted = S .counted; few = S .few; packed-sets = S .packed-sets };
       }
-    where
-      done : (last′ packed′ : List ℕ) (count′ : ℕ) → Placed o w (replicate 16 0) packed 0 last′ packed′ count′ → Packed l n w packed′ count′
-      done last′ packed′ count′ P =
-          let S = P .shown [] shows-none in
-          record {
-            counted = S .counted ∙ ap (λ (dep : ℕ → ℕ → Bool). length (foata dep w)) same;
-            few = S .few;
-            packed-sets = S .packed-sets ∙ ap (λ (dep : ℕ → ℕ → Bool). map setOf (foata dep w) ++ replicate (1024 - count′) 0) same;
-          }

@@ -6,25 +6,25 @@ ghost use Prim.Native.Nat.{_/_, _≤_};
 ghost use lib.ListN.{length, replicate};
 ghost use Rattle.systems.specs.Checking.{flat};
 ghost use Rattle.sheet.specs.Numbers.{number, parts};
-ghost use Rattle.packing.specs.Packed.{AllKnown, Packed};
+ghost use Rattle.placing.specs.Placing.{dependentOn, OfSixteen, AllOwned};
+ghost use Rattle.packing.specs.Packed.{Packed};
 
-// Packs the steps of a step section into `packed`, which comes with zeros, and gives back how many steps there are.
-pub fn pack(section: &[u8], alphabets: &[u64], n: usize, packed: &mut [u64]) -> usize
-    requires { ⌜ (n ≤ 16) × (length (now alphabets) ≡ 16) × (now packed ≡ replicate 1024 0)
+// Packs the steps of a step section into `packed`, which comes with zeros, by the components of each action, and gives back how many steps
+// there are.
+pub fn pack(section: &[u8], owners: &[u64], packed: &mut [u64]) -> usize
+    requires { ⌜ OfSixteen (now owners) × (now packed ≡ replicate 1024 0)
         × (length (flat (map number (parts 8 (length (now section) / 8) (now section)))) ≤ 1024)
-        × AllKnown (now alphabets) n (flat (map number (parts 8 (length (now section) / 8) (now section)))) ⌝ }
-    ensures { λ r. ⌜ Packed (now (alphabets .entry)) n
+        × AllOwned (now owners) (flat (map number (parts 8 (length (now section) / 8) (now section)))) ⌝ }
+    ensures { λ r. ⌜ Packed (dependentOn (now (owners .entry)))
         (flat (map number (parts 8 (length (now (section .entry)) / 8) (now (section .entry))))) (now (packed .exit)) r ⌝ }
 {
     let count = section.len() / 8;
-    let mut owners = [0u64; 64];
-    owners::owners_of(alphabets, n, &mut owners);
     let mut last = [0usize; 16];
     let mut steps = 0;
     let mut k = 0;
     while k < count {
         steps = placing::place_step(
-            &owners,
+            owners,
             numbers::step_at(section, k),
             steps,
             &mut last,

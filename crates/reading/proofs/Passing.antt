@@ -1,25 +1,28 @@
--- What a trailer that passed says of the sheet's sizes and offsets; and the reader's answer, refusal by refusal:
--- a refusal of the trailer stays what it is, and one that fails hands on to those behind it.
+-- What a trailer that passed says of the sheet's sizes and offsets; and refusals in a row, told as the number of the lowest that holds,
+-- or 0 where none does.
 -- Assumes nothing.
-use mathlib.Core.Path.{_≡_, refl, ap}
+use mathlib.Core.Path.{_≡_, refl, sym, ap, _∙_}
 use mathlib.Core.Logic.{_≢_}
 use mathlib.Core.Bool.{Bool, true, false}
 use mathlib.Core.List.{List}
-use Prim.Native.Nat.{ℕ, _+_, _-_, _*_, _≤_, _<_}
+use Prim.Native.Nat.{ℕ, zero, suc, _+_, _-_, _*_, _≤_, _<_}
 use native.Mathlib.Omega.{arith}
 use lib.ListN.{length, getD, take, drop, length-take, length-drop}
 use Rattle.sets.proofs.Bools.{ltb-true, ltb-false}
 use Rattle.systems.specs.Checking.{flat}
 use Rattle.sheet.specs.Numbers.{field}
-use Rattle.sheet.specs.Layout.{transitionsAt, stepsAt, componentCount, actionCount, steps}
+use Rattle.sheet.specs.Layout.{transitionsAt, stepsAt, componentCount, actionCount, alphabetOf, steps}
 use Rattle.sheet.specs.Refusals.{lengthWrong, markWrong, countsWrong, offsetsWrong, recordsWrong, actionUnused, transitionsWrong, orderWrong, tooManyActions}
+use Rattle.sheet.specs.Sections.{Alphabets}
 use Rattle.sheet.specs.Verdict.{Verdict, accepted, refused, refuseIf}
 use Rattle.sheet.proofs.Limits.{length-right, counts-right, offsets-right}
+use Rattle.sheet.proofs.Passing.{checked}
 use Rattle.trailer.specs.Numbered.{numberIf, trailerNumber}
 use Rattle.trailer.proofs.Trailer.{components-read, actions-read}
 use Rattle.reading.specs.declared.Reading.the-variants.{Accepted as sound, Refused as turned}
-use Rattle.reading.specs.Reading.{readingOf, trailerThen, tablesThen, countThen}
-use Rattle.reading.proofs.Sections.{Sectioned}
+use Rattle.reading.specs.Reading.{readingOf, trailerThen, Trailed}
+use Rattle.reading.specs.Tests.{tablesNumber, tablesRefusal}
+use Rattle.reading.proofs.Sections.{Sectioned, alphabet-same, tables-part}
 
 -- ---- the trailer
 
@@ -46,7 +49,7 @@ module _ (b : List ℕ) (n m t s : ℕ) where
   passed true k v e = let z : _≡_ {A = ℕ} 0 1 = cc in absurd (omega arith)
   passed false k v e = (refl, e)
 
-  pub trailer-read : sound n m t s ≡ readingOf b (trailerThen b accepted) → Read b n m t s
+  pub trailer-read : Trailed b n m t s → Read b n m t s
   trailer-read e =
       let l = passed (lengthWrong b) 1 _ e in
       let k = passed (markWrong b) 2 _ (l .1) in
@@ -94,64 +97,72 @@ module _ (b : List ℕ) (n m t s : ℕ) where
   pub steps-short : Read b n m t s → length (take (length b - 10 - s) (drop s b)) ≤ 8192
   steps-short r = simp (length-take, length-drop) (omega arith)
 
--- a refusal of the trailer, with other tests behind it
-module _ (b : List ℕ) (k i : ℕ) where
-  stays : (w : Bool) (j : ℕ) (u v : Verdict) → (turned k i ≡ readingOf b u → turned k i ≡ readingOf b v)
-      → turned k i ≡ readingOf b (refuseIf w j u) → turned k i ≡ readingOf b (refuseIf w j v)
-  stays true j u v rest e = e
-  stays false j u v rest e = rest e
+  -- the alphabets of the records are those of all bytes before the steps
+  pub read-alphabets : Read b n m t s → (l : List ℕ) → Alphabets (alphabetOf (take (t - 0) (drop 0 b))) n l → Alphabets (alphabetOf (take s b)) n l
+  read-alphabets r l h = record { size = h .size; each = λ j k. h .each j k ∙ alphabet-same (t - 0) s b j (omega arith) (omega arith) }
 
-  pub trailer-refused : (v : Verdict) → turned k i ≡ readingOf b (trailerThen b accepted) → turned k i ≡ readingOf b (trailerThen b v)
-  trailer-refused v =
-      stays (lengthWrong b) 1 _ _ (stays (markWrong b) 2 _ _ (stays (countsWrong b) 3 _ _ (stays (offsetsWrong b) 4 accepted v none)))
+-- ---- refusals in a row, told as one number
+
+-- what a number tells before what comes then: the refusal with that number, or none
+abbrev pub refusedOr : ℕ → Verdict → Verdict
+refusedOr zero v = v
+refusedOr (suc k) v = refused (suc k) 0
+
+-- the same as a number
+abbrev pub numberOr : ℕ → ℕ → ℕ
+numberOr zero later = later
+numberOr (suc k) later = suc k
+
+pub refused-or : (x : ℕ) (v : Verdict) → x ≢ 0 → refusedOr x v ≡ refused x 0
+refused-or zero v n = absurd (n refl)
+refused-or (suc k) v n = refl
+
+pub number-or : (x later : ℕ) → x ≢ 0 → numberOr x later ≡ x
+number-or zero later n = absurd (n refl)
+number-or (suc k) later n = refl
+
+-- one more refusal in front
+refuse-more : (w : Bool) (k x : ℕ) (u v : Verdict) → u ≡ refusedOr x v → refuseIf w (suc k) u ≡ refusedOr (numberIf w (suc k) x) v
+refuse-more true k x u v e = refl
+refuse-more false k x u v e = e
+
+number-more : (w : Bool) (k x later y : ℕ) → y ≡ numberOr x later → numberIf w (suc k) y ≡ numberOr (numberIf w (suc k) x) later
+number-more true k x later y e = refl
+number-more false k x later y e = e
+
+module _ (b : List ℕ) where
+  -- 1 to 4
+  pub trailer-number : (v : Verdict) → trailerThen b v ≡ refusedOr (trailerNumber b) v
+  unfolding trailerNumber
+  trailer-number v =
+      refuse-more (lengthWrong b) 0 _ _ v
+      (refuse-more (markWrong b) 1 _ _ v (refuse-more (countsWrong b) 2 _ _ v (refuse-more (offsetsWrong b) 3 0 v v refl)))
+
+  -- a refusal by it stays what it is, whatever stands behind
+  pub trailer-refused : (k i : ℕ) (v : Verdict) → turned k i ≡ readingOf b (trailerThen b accepted) → turned k i ≡ readingOf b (trailerThen b v)
+  trailer-refused k i v e =
+      stays (trailerNumber b) (e ∙ ap (readingOf b) (trailer-number accepted)) ∙ ap (readingOf b) (sym (trailer-number v))
     where
-      none : turned k i ≡ readingOf b accepted → turned k i ≡ readingOf b v
-      none e = let z : _≡_ {A = ℕ} 0 1 = cc in absurd (omega arith)
+      stays : (x : ℕ) → turned k i ≡ readingOf b (refusedOr x accepted) → turned k i ≡ readingOf b (refusedOr x v)
+      stays zero e = let z : _≡_ {A = ℕ} 0 1 = cc in absurd (omega arith)
+      stays (suc x) e = e
 
--- ---- four refusals in a row, told as one number
+  -- 5 to 9, of a sheet whose trailer passed
+  pub tables-number : (n m t s : ℕ) → Read b n m t s → (v : Verdict) → checked b v ≡ refusedOr (tablesRefusal b) v
+  tables-number n m t s r v =
+      read-then b n m t s r _
+      ∙ refuse-more (recordsWrong b) 4 _ _ v
+      (refuse-more (actionUnused b) 5 _ _ v
+      (refuse-more (transitionsWrong b) 6 _ _ v (refuse-more (orderWrong b) 7 _ _ v (refuse-more (tooManyActions b) 8 0 v v refl))))
 
--- the lowest of four refusals that holds, or 0
-abbrev pub lowest : Bool → ℕ → Bool → ℕ → Bool → ℕ → Bool → ℕ → ℕ
-lowest p i q j r k s l = numberIf p i (numberIf q j (numberIf r k (numberIf s l 0)))
-
-abbrev pub refusing : Bool → ℕ → Bool → ℕ → Bool → ℕ → Bool → ℕ → Verdict → Verdict
-refusing p i q j r k s l v = refuseIf p i (refuseIf q j (refuseIf r k (refuseIf s l v)))
-
-module _ (b : List ℕ) (x : ℕ) (v : Verdict) (i j k l : ℕ) where
-  refused-by : (p q r s : Bool) → x ≡ lowest p i q j r k s l → x ≢ 0 → turned x 0 ≡ readingOf b (refusing p i q j r k s l v)
-  refused-by true q r s e n = ap (λ (y : ℕ). turned y 0) e
-  refused-by false true r s e n = ap (λ (y : ℕ). turned y 0) e
-  refused-by false false true s e n = ap (λ (y : ℕ). turned y 0) e
-  refused-by false false false true e n = ap (λ (y : ℕ). turned y 0) e
-  refused-by false false false false e n = absurd (n e)
-
-  passed-by : 0 < i → 0 < j → 0 < k → 0 < l → (p q r s : Bool) → x ≡ lowest p i q j r k s l → x ≡ 0 → refusing p i q j r k s l v ≡ v
-  passed-by hi hj hk hl true q r s e z = absurd (omega arith)
-  passed-by hi hj hk hl false true r s e z = absurd (omega arith)
-  passed-by hi hj hk hl false false true s e z = absurd (omega arith)
-  passed-by hi hj hk hl false false false true e z = absurd (omega arith)
-  passed-by hi hj hk hl false false false false e z = refl
-
--- refusals 5 to 8 as one number
-abbrev pub number-of : List ℕ → ℕ
-number-of b = lowest (recordsWrong b) 5 (actionUnused b) 6 (transitionsWrong b) 7 (orderWrong b) 8
-
-module _ (b : List ℕ) (x : ℕ) (v : Verdict) where
-  pub trailer-turned : x ≡ trailerNumber b → x ≢ 0 → turned x 0 ≡ readingOf b (trailerThen b v)
-  unfolding trailerNumber
-  trailer-turned = refused-by b x v 1 2 3 4 (lengthWrong b) (markWrong b) (countsWrong b) (offsetsWrong b)
-
-  pub trailer-passed : x ≡ trailerNumber b → x ≡ 0 → trailerThen b v ≡ v
-  unfolding trailerNumber
-  trailer-passed =
-      passed-by b x v 1 2 3 4 (omega arith) (omega arith) (omega arith) (omega arith) (lengthWrong b) (markWrong b) (countsWrong b) (offsetsWrong b)
-
-  pub tables-refused : x ≡ number-of b → x ≢ 0 → turned x 0 ≡ readingOf b (tablesThen b v)
-  tables-refused = refused-by b x v 5 6 7 8 (recordsWrong b) (actionUnused b) (transitionsWrong b) (orderWrong b)
-
-  pub tables-passed : x ≡ number-of b → x ≡ 0 → tablesThen b v ≡ v
-  tables-passed =
-      passed-by b x v 5 6 7 8 (omega arith) (omega arith) (omega arith) (omega arith) (recordsWrong b) (actionUnused b) (transitionsWrong b) (orderWrong b)
+  -- 5 to 8, told of the parts, then 9
+  pub refusal-number : (n m t s : ℕ) → Read b n m t s → (x : ℕ) → x ≡ tablesNumber (take (t - 0) (drop 0 b)) (take (s - t) (drop t b)) n m
+      → tablesRefusal b ≡ numberOr x (numberIf (tooManyActions b) 9 0)
+  refusal-number n m t s r x e =
+      number-more (recordsWrong b) 4 _ _ _
+      (number-more (actionUnused b) 5 _ _ _ (number-more (transitionsWrong b) 6 _ _ _ (number-more (orderWrong b) 7 0 _ _ refl)))
+      ∙ ap (λ (y : ℕ). numberOr y (numberIf (tooManyActions b) 9 0))
+      (sym (e ∙ tables-part b (read-sectioned b n m t s r) n m t s (r .n-read) (r .m-read) (r .t-read) (r .s-read)))
 
 -- the sizes and offsets, as they are read
 pub sizes-read : (b : List ℕ) (n m t s : ℕ) → n ≡ getD b (length b - 4) 0 → m ≡ getD b (length b - 3) 0
@@ -161,11 +172,11 @@ sizes-read b n m t s p q r o = cc (components-read b, actions-read b)
 
 -- ---- the count of actions
 
-module _ (b : List ℕ) (x : ℕ) (v : Verdict) (e : x ≡ length (flat (steps b))) where
-  pub count-refused : 1024 < x → countThen b v ≡ refused 9 0
+module _ (b : List ℕ) (x : ℕ) (e : x ≡ length (flat (steps b))) where
+  pub count-refused : 1024 < x → tooManyActions b ≡ true
   unfolding tooManyActions
-  count-refused l = ap (λ (w : Bool). refuseIf w 9 v) (ltb-true 1024 (length (flat (steps b))) .1 (omega arith))
+  count-refused l = ltb-true 1024 (length (flat (steps b))) .1 (omega arith)
 
-  pub count-passed : x ≤ 1024 → countThen b v ≡ v
+  pub count-passed : x ≤ 1024 → tooManyActions b ≡ false
   unfolding tooManyActions
-  count-passed l = ap (λ (w : Bool). refuseIf w 9 v) (ltb-false 1024 (length (flat (steps b))) .1 (omega arith))
+  count-passed l = ltb-false 1024 (length (flat (steps b))) .1 (omega arith)

@@ -2,14 +2,14 @@
 ghost use mathlib.Core.Path.{_≡_};
 ghost use mathlib.Core.List.{map};
 ghost use Prim.Native.Nat.{_*_, _/_, _≤_};
-ghost use lib.ListN.{length};
+ghost use lib.ListN.{length, take};
 ghost use Rattle.systems.specs.Checking.{flat};
 ghost use Rattle.sheet.specs.Numbers.{number, parts};
 ghost use Rattle.sheet.specs.Layout.{alphabetOf};
 ghost use Rattle.sheet.specs.Verdict.{accepted};
 ghost use Rattle.sheet.specs.Sections.{Alphabets};
-ghost use Rattle.reading.specs.Reading.{readingOf, trailerThen, tablesThen, countThen};
-ghost use Rattle.reading.specs.Tests.{tablesNumber};
+ghost use Rattle.reading.specs.Reading.{readingOf, trailerThen, Trailed};
+ghost use Rattle.reading.specs.Tests.{tablesNumber, tablesRefusal};
 
 // What a reader answers: the sizes n and m and the offsets T and S of a sheet that passed, or the refusal with its number and
 // step index.
@@ -78,42 +78,35 @@ pub fn actions_in(section: &[u8]) -> u64
     sum
 }
 
-// Refusals 5 to 8, on the records and on the transitions, each a part of the sheet.
-fn tables_refused(records: &[u8], section: &[u8], n: usize, m: usize) -> u64
-    requires { ⌜ (1 ≤ n) × (n ≤ 16) × (m ≤ 64) × (16 * n ≤ length (now records)) ⌝ }
-    ensures { λ r. ⌜ r ≡ tablesNumber (now (records .entry)) (now (section .entry)) n m ⌝ }
+// Refusals 5 to 8, on the records and on the transitions, each a part of the sheet; leaves the alphabets of records that are not wrong.
+fn tables_refused(records: &[u8], section: &[u8], n: usize, m: usize, found: &mut [u64]) -> u64
+    requires { ⌜ (1 ≤ n) × (n ≤ 16) × (m ≤ 64) × (16 * n ≤ length (now records)) × (length (now found) ≡ 16) ⌝ }
+    ensures { λ r. ⌜ (r ≡ tablesNumber (now (records .entry)) (now (section .entry)) n m)
+        × (r ≡ 0 → Alphabets (alphabetOf (now (records .entry))) n (now (found .exit))) ⌝ }
 {
     if records::records_wrong(records, n, m as u64) {
         return 5;
     }
-    let mut found = [0u64; 16];
-    alphabets(records, n, &mut found);
-    if records::action_unused(&found, n, m as u32) {
+    alphabets(records, n, found);
+    if records::action_unused(found, n, m as u32) {
         return 6;
     }
-    transitions::transitions_refused(section, records, &found, n)
+    transitions::transitions_refused(section, records, found, n)
 }
 
-// Refusals 1 to 9: the sheet, up to its steps.
-pub fn read_sheet(sheet: &[u8]) -> Reading
-    ensures { λ r. ⌜ r
-        ≡ readingOf (now (sheet .entry))
-        (trailerThen (now (sheet .entry)) (tablesThen (now (sheet .entry)) (countThen (now (sheet .entry)) accepted))) ⌝ }
+// Refusals 5 to 9 of a sheet whose trailer passed: the lowest that holds, or 0 and the alphabets are left in `found`.
+pub fn read_tables(sheet: &[u8], n: usize, m: usize, t: usize, s: usize, found: &mut [u64]) -> u64
+    requires { ⌜ Trailed (now sheet) n m t s × (length (now found) ≡ 16) ⌝ }
+    ensures { λ r. ⌜ (r ≡ tablesRefusal (now (sheet .entry)))
+        × (r ≡ 0 → Alphabets (alphabetOf (take s (now (sheet .entry)))) n (now (found .exit))) ⌝ }
 {
-    let read = read_trailer(sheet);
-    let Reading::Accepted { n, m, t, s } = read else {
-        return read;
-    };
     let end = sheet.len() - 10;
-    let number = tables_refused(&sheet[0..t], &sheet[t..s], n, m);
+    let number = tables_refused(&sheet[0..t], &sheet[t..s], n, m, found);
     if number != 0 {
-        return Reading::Refused { number, index: 0 };
+        return number;
     }
     if 1024 < actions_in(&sheet[s..end]) {
-        return Reading::Refused {
-            number: 9,
-            index: 0,
-        };
+        return 9;
     }
-    read
+    0
 }

@@ -2,14 +2,13 @@
 -- refusal as it stands.
 -- Assumes nothing.
 use mathlib.Core.Path.{_≡_, refl, sym, ap, _∙_}
-use mathlib.Core.List.{List, map}
+use mathlib.Core.List.{List, List·Memᴰ, map}
 use Prim.Native.Nat.{ℕ, _+_, _-_, _*_, _/_, _≤_, _<_}
 use native.Mathlib.Omega.{arith}
 use lib.ListN.{length, take, drop, getD, length-take}
 use Rattle.sets.specs.Lists.{below}
 use Rattle.sets.specs.Bits.{member}
 use Rattle.sets.proofs.Lists.{some-intro, mem-below}
-use Rattle.systems.specs.Tables.{InOrder}
 use Rattle.systems.specs.Running.{start}
 use Rattle.systems.specs.Checking.{flat}
 use Rattle.systems.specs.Independence.{dependent, dependentBy, AllKnown}
@@ -18,14 +17,14 @@ use Rattle.systems.proofs.Executions.{flat-below}
 use Rattle.sheet.specs.Numbers.{number, parts}
 use Rattle.sheet.specs.Layout.{transitionsAt, stepsAt, componentCount, actionCount, alphabetOf, front, tablesOf, tables, steps}
 use Rattle.sheet.specs.Sections.{Alphabets}
-use Rattle.sheet.specs.Verdict.{Verdict, accepted, refused, verdict}
+use Rattle.sheet.specs.Verdict.{Verdict, accepted, refused, verdict, Accepted}
 use Rattle.sheet.proofs.Numbers.{field-within}
 use Rattle.sheet.proofs.RoundTrip.{section-steps}
 use Rattle.reading.specs.declared.Reading.the-variants.{Accepted as sound, Refused as turned}
 use Rattle.reading.specs.Reading.{readingOf}
-use Rattle.packing.proofs.Dependences.{dependentBy-tables}
 use Rattle.answers.proofs.Restated.{accepted-limits, accepted-order, accepted-fine}
 use Rattle.restating.specs.Known.{Admitted, Known}
+use Rattle.restating.proofs.Dependences.{dependentBy-tables}
 
 -- ---- the verdict
 
@@ -81,6 +80,11 @@ turned-refused b k i e = go (verdict b) e
 
 -- ---- alphabets and steps
 
+-- every action in a step of an accepted sheet is one of its m actions
+pub steps-below : (b : List ℕ) → Accepted b → (a : ℕ) → List·Memᴰ a (flat (steps b)) → a < tables b .actions
+steps-below b acc =
+    flat-below (tables b) (accepted-order b acc) (steps b) (fault-none (tables b) (start (tables b)) 0 (steps b) .0 (accepted-fine b acc) .0)
+
 -- the steps that stand in the bytes from s up to the trailer
 abbrev pub readSteps : List ℕ → ℕ → List ℕ
 readSteps b s = map number (parts 8 (length (take (length b - 10 - s) (drop s b)) / 8) (take (length b - 10 - s) (drop s b)))
@@ -110,7 +114,7 @@ module _ (b : List ℕ) (n m t s : ℕ) (r : Admitted b n m t s) where
       (ap (λ (x : ℕ). take (length b - 10 - x) (drop x b)) (r .s-read))
 
   module _ (l : List ℕ) (a : Alphabets (alphabetOf (take (t - 0) (drop 0 b))) n l) where
-    alphabets-told : (j : ℕ) → j < n → getD l j 0 ≡ tables b .alphabet j
+    pub alphabets-told : (j : ℕ) → j < n → getD l j 0 ≡ tables b .alphabet j
     alphabets-told j h = a .each j h ∙ alphabet-same j h ∙ sym (alphabet-front j)
 
     pub dependence-told : dependentBy l n ≡ dependent (tables b)
@@ -120,11 +124,7 @@ module _ (b : List ℕ) (n m t s : ℕ) (r : Admitted b n m t s) where
 
     known-steps : AllKnown l n (flat (steps b))
     known-steps x m =
-        let acc = r .sheet-accepted in
-        let T = tables b in
-        let order : InOrder (tables b) = accepted-order b acc in
-        let fewer = flat-below T order (steps b) (fault-none T (start T) 0 (steps b) .0 (accepted-fine b acc) .0) x m in
-        let u = order .action-used x fewer in
+        let u = accepted-order b (r .sheet-accepted) .action-used x (steps-below b (r .sheet-accepted) x m) in
         let h : u .0 < n = let k = u .1 in let e = components-told in omega arith in
         some-intro (λ j. member (getD l j 0) x) (below n) (mem-below n (u .0) .1 h)
         (ap (λ (y : ℕ). member y x) (alphabets-told (u .0) h) ∙ u .2)

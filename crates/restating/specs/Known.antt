@@ -4,8 +4,9 @@ use mathlib.Core.Path.{_≡_}
 use mathlib.Core.List.{List}
 use Prim.Native.Nat.{ℕ, _+_, _*_, _≤_}
 use lib.ListN.{length, take}
-use Rattle.sheet.specs.Layout.{transitionsAt, stepsAt, componentCount, actionCount}
+use Rattle.sheet.specs.Layout.{transitionsAt, stepsAt, componentCount, actionCount, tables}
 use Rattle.sheet.specs.Verdict.{Accepted}
+use Rattle.owners.specs.Owners.{Owners}
 use Rattle.answers.specs.Restated.{restatedSteps}
 
 -- an accepted sheet with its n, m, T and S, and the bounds that follow
@@ -27,6 +28,12 @@ pub record Known (b : List ℕ) (n s : ℕ) : Type 0 where
   pub sheet-accepted : Accepted b
   pub n-read : n ≡ componentCount b
   pub s-read : s ≡ stepsAt b
+
+-- an accepted sheet with its S and the components of each action
+pub record Owned (b : List ℕ) (s : ℕ) (owners : List ℕ) : Type 0 where
+  pub sheet-accepted : Accepted b
+  pub s-read : s ≡ stepsAt b
+  pub owned : Owners (tables b .alphabet) (componentCount b) owners
 
 -- the array's first `count` entries are the restated steps of the sheet b
 pub record PackedSteps (b packed : List ℕ) (count : ℕ) : Type 0 where

@@ -5,12 +5,10 @@ use mathlib.Core.List.{List}
 use Prim.Native.Nat.{ℕ, _+_, _*_, _≤_, _<_}
 use native.Mathlib.Omega.{arith}
 use lib.ListN.{length, take}
-use Rattle.sheet.specs.Layout.{front}
+use Rattle.sheet.specs.Layout.{transitionsAt, componentCount, actionCount, front}
 use Rattle.sheet.specs.Writing.{sheetOf}
-use Rattle.sheet.specs.Verdict.{verdict}
 use Rattle.sheet.proofs.RoundTrip.{front-length}
-use Rattle.reading.specs.declared.Reading.{Reading}
-use Rattle.reading.specs.declared.Reading.the-variants.{Refused as turned}
+use Rattle.reading.specs.declared.Reading.the-variants.{Accepted as sound, Refused as turned}
 use Rattle.reading.specs.Reading.{readingOf}
 use Rattle.writing.specs.Sections.{over}
 use Rattle.answers.specs.Answers.{Answer}
@@ -18,21 +16,29 @@ use Rattle.answers.specs.Restated.{restated}
 use Rattle.answers.specs.Restating.{restating}
 use Rattle.answers.proofs.Restated.{accepted-limits, restated-reads}
 use Rattle.answers.proofs.Answers.{refused-first, refused-short, given-long, refused-kept, given-output}
+use Rattle.desk.specs.Calls.{CheckRight}
 use Rattle.rewriting.specs.declared.Restated.{Restated}
 use Rattle.rewriting.specs.declared.Restated.the-variants.{Written, Refused as restatedRefused}
-use Rattle.rewriting.specs.Calls.{restatedOf, notRestated, RestateRight}
-use Rattle.restating.specs.Known.{Admitted, PackedSteps}
-use Rattle.restating.proofs.Accepting.{turned-refused}
+use Rattle.rewriting.specs.Calls.{restatedOf, RestateRight}
+use Rattle.restating.specs.Known.{Admitted, Owned, PackedSteps}
+use Rattle.restating.proofs.Accepting.{admitted-check, turned-refused}
 
 -- a refused call leaves the output as it came
 refused-right : (b out : List ℕ) (r : Restated) (k i : ℕ) → restatedOf r ≡ Answer.refused k i
     → restating b (length out) ≡ Answer.refused k i → RestateRight b out r out
 refused-right b out r k i told e = record { answer-told = told ∙ sym e; output-left = sym (refused-kept b out k i e) }
 
-pub restate-refused : (b out : List ℕ) (read : Reading) (r : Restated) (k i : ℕ)
-    → read ≡ readingOf b (verdict b) → read ≡ turned k i → r ≡ notRestated read → RestateRight b out r out
-restate-refused b out read r k i told e f =
-    refused-right b out r k i (ap restatedOf (f ∙ ap notRestated e)) (refused-first b (length out) k i (turned-refused b k i (sym e ∙ told)))
+pub restate-refused : (b out : List ℕ) (r : Restated) (k i : ℕ) → CheckRight b (turned k i) → r ≡ restatedRefused k i → RestateRight b out r out
+restate-refused b out r k i told e = refused-right b out r k i (ap restatedOf e) (refused-first b (length out) k i (turned-refused b k i told))
+
+-- the number that goes unsaid: T
+pub owned-admitted : (b : List ℕ) (n m s : ℕ) (owners : List ℕ) → Owned b s owners → n ≡ componentCount b → m ≡ actionCount b
+    → Admitted b n m (transitionsAt b) s
+owned-admitted b n m s owners o en em =
+    let told = ap (readingOf b) (o .sheet-accepted) in
+    let es = o .s-read in
+    let read : CheckRight b (sound n m (transitionsAt b) s) = cc in
+    admitted-check b n m (transitionsAt b) s read
 
 module _ (b : List ℕ) (n m t s : ℕ) (r : Admitted b n m t s) (packed : List ℕ) (count : ℕ) (p : PackedSteps b packed count) where
   sheet-told : sheetOf (take s b) n m (take count packed) ≡ restated b

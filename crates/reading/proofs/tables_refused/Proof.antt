@@ -4,6 +4,7 @@ use mathlib.Core.Path.{_≡_, refl, sym, ap, _∙_}
 use mathlib.Core.Bool.{Bool, true, false, not, _||_}
 use mathlib.Core.List.{List}
 use Prim.Native.Nat.{ℕ, _/_}
+use native.Mathlib.Omega.{arith}
 use lib.Dec.{leb}
 use lib.ListN.{length, getD}
 use Rattle.sets.specs.Lists.{some, below}
@@ -83,19 +84,16 @@ records-wrong-requires : tie.Need-records-wrong-requires
 records-wrong-requires c κs = search needs
 
 returns : tie.Need-returns
-returns c = decided (c .before .before .before .before) true _ _ (sym (c .if1 .taken) ∙ c .before .records-wrong .ensures) refl refl
+returns c = (
+  decided (c .before .before .before .before .before) true _ _ (sym (c .if1 .taken) ∙ c .before .records-wrong .ensures) refl refl,
+  λ z. absurd (omega arith),
+)
 
-records-right : (c : tie.Else1) → false ≡ bad-record (c .before .before .before .before)
+records-right : (c : tie.Else1) → false ≡ bad-record (c .before .before .before .before .before)
 records-right c = sym (c .if1 .left) ∙ c .before .records-wrong .ensures
-
-slice-aggregate-alphabets : tie.Need-slice-aggregate-alphabets
-slice-aggregate-alphabets c = search needs
 
 alphabets-requires : tie.Need-alphabets-requires
 alphabets-requires c κs = search needs
-
-slice-aggregate-action-unused : tie.Need-slice-aggregate-action-unused
-slice-aggregate-action-unused c = search needs
 
 cast-action-unused : tie.Need-cast-action-unused
 cast-action-unused c = search needs
@@ -103,36 +101,47 @@ cast-action-unused c = search needs
 action-unused-requires : tie.Need-action-unused-requires
 action-unused-requires c κs = search needs
 
+same-length : tie.Need-same-length
+same-length c = search needs
+
 -- the array as the call left it
 abbrev found : tie.After-alphabets → List ℕ
 found c = c .alphabets .last .1 .1 .0
 
-unused-told : (c : tie.After-action-unused)
-    → c .action-unused .result ≡ unused (c .before .before .before .before .before .before .before .before .before)
+abbrev right-at : tie.After-alphabets → tie.Else1
+right-at c = c .before .before
+
+abbrev start-at : tie.After-alphabets → tie.Start
+start-at c = right-at c .before .before .before .before .before
+
+unused-told : (c : tie.After-action-unused) → c .action-unused .result ≡ unused (start-at (c .before .before .before .before))
 unused-told c =
-    let read = c .before .before .before in
-    let s = read .before .before .before .before .before .before in
+    let read = c .before .before .before .before in
+    let s = start-at read in
     c .action-unused .ensures ∙ unused-same (s .args .records .now) (s .args .n) (s .args .m) (found read) (read .alphabets .ensures)
 
 returns-2 : tie.Need-returns-2
 returns-2 c =
-    let right = c .before .before .before .before .before .before in
-    decided (right .before .before .before .before) false true _ (records-right right) (sym (c .if2 .taken) ∙ unused-told (c .before)) refl
-
-slice-aggregate-transitions-refused : tie.Need-slice-aggregate-transitions-refused
-slice-aggregate-transitions-refused c = search needs
+    let read = c .before .before .before .before .before in (
+      decided (start-at read) false true _ (records-right (right-at read)) (sym (c .if2 .taken) ∙ unused-told (c .before)) refl,
+      λ z. absurd (omega arith),
+    )
 
 transitions-refused-requires : tie.Need-transitions-refused-requires
 transitions-refused-requires c κs = search needs
 
+same-length-2 : tie.Need-same-length-2
+same-length-2 c = search needs
+
 returns-3 : tie.Need-returns-3
 returns-3 c =
     let used = c .before .before in
-    let read = used .before .before .before .before in
-    let right = read .before .before in
-    let s = right .before .before .before .before in
-    decided s false false (c .transitions-refused .result) (records-right right) (sym (used .if2 .left) ∙ unused-told (used .before))
-    (told-same (wanted s) (found read) _ (c .transitions-refused .result) (read .alphabets .ensures) (c .transitions-refused .ensures))
+    let read = used .before .before .before .before .before in
+    let s = start-at read in (
+      decided s false false (c .transitions-refused .result) (records-right (right-at read)) (sym (used .if2 .left) ∙ unused-told (used .before))
+          (told-same (wanted s) (found read) _ (c .transitions-refused .result) (read .alphabets .ensures) (c .transitions-refused .ensures)),
+      λ z. read .alphabets .ensures,
+    )
 
 pub tables-refused-spec : {M : Type 1} → statement M
 tables-refused-spec =
@@ -140,12 +149,11 @@ tables-refused-spec =
     (tie.spec
     records-wrong-requires
     returns
-    slice-aggregate-alphabets
     alphabets-requires
-    slice-aggregate-action-unused
     cast-action-unused
     action-unused-requires
+    same-length
     returns-2
-    slice-aggregate-transitions-refused
     transitions-refused-requires
+    same-length-2
     returns-3)

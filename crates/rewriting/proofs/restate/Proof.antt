@@ -1,15 +1,15 @@
--- `rewriting::restate` meets its contract: of an accepted sheet the packed steps make the restated sheet, written where it fits; else
--- the output stays as it came.
+-- `rewriting::restate` meets its contract: the refusal of the trailer or that of marking, with the output as it came; else what the
+-- accepted sheet is restated as.
 -- Assumes nothing.
-use mathlib.Core.Path.{refl, sym, _∙_}
+use mathlib.Core.Path.{refl, sym, ap, _∙_}
 use mathlib.Core.List.{List}
 use Prim.Native.Nat.{ℕ}
-use native.Mathlib.Omega.{arith}
-use lib.ListN.{length-take}
 use borrow.Author.Needs.{needs}
-use Rattle.restating.specs.Known.{Admitted}
-use Rattle.restating.proofs.Accepting.{admitted-check, admitted-known}
-use Rattle.rewriting.proofs.RestatingAnswers.{restate-refused, restate-short, restate-written}
+use Rattle.reading.specs.Reading.{Trailed}
+use Rattle.marking.proofs.Marking.{trailer-stopped, done-told, faulty-told}
+use Rattle.restating.proofs.Accepting.{admitted-check}
+use Rattle.rewriting.specs.Calls.{notRestated}
+use Rattle.rewriting.proofs.RestatingAnswers.{restate-refused}
 use Rattle.rewriting.proofs.restate.Statement.{statement}
 use Rattle.rewriting.proofs.restate.Tie as tie
 
@@ -31,14 +31,22 @@ t-at c = c .read .given .0 .1 .1 .0
 abbrev s-at : tie.After-read → ℕ
 s-at c = c .read .given .0 .1 .1 .1 .0
 
-admitted-at : (c : tie.After-read) → Admitted (sheet-at c) (n-at c) (m-at c) (t-at c) (s-at c)
-admitted-at c = admitted-check (sheet-at c) (n-at c) (m-at c) (t-at c) (s-at c) (sym (c .read .given .1) ∙ c .before .before .check .ensures)
+trailed-at : (c : tie.After-read) → Trailed (sheet-at c) (n-at c) (m-at c) (t-at c) (s-at c)
+trailed-at c = sym (c .read .given .1) ∙ c .before .before .read-trailer .ensures
 
-abbrev packed-read : tie.After-packed2 → tie.After-read
-packed-read c = c .before .before .before .before
+-- ---- after marking
 
-check-requires : tie.Need-check-requires
-check-requires c κs = search needs
+abbrev read-at : tie.After-mark-tables → tie.After-read
+read-at c = c .before .before .before .before
+
+abbrev owners-at : tie.After-mark-tables → List ℕ
+owners-at c = c .mark-tables .last .1 .1 .1 .1 .1 .0
+
+abbrev held-at : tie.After-mark-tables → List ℕ
+held-at c = c .mark-tables .last .1 .1 .1 .1 .1 .1 .0
+
+read-trailer-requires : tie.Need-read-trailer-requires
+read-trailer-requires c κs = search needs
 
 enum-known-read : tie.Need-enum-known-read
 enum-known-read c = search needs
@@ -52,86 +60,72 @@ not-restated-requires c κs = search needs
 returns : tie.Need-returns
 returns c =
     let g = c .before .enum-told .given in
-    let checked = c .before .before .before .check in
-    let start = c .before .before .before .before .before .before in
-    restate-refused (start .args .sheet .now) (start .args .out .now) (checked .result) (c .not-restated .result) (g .0 .0) (g .0 .1 .0)
-    (checked .ensures) (g .1) (c .not-restated .ensures)
+    let d = c .before .before .before in
+    let a = d .before .before .before .args in
+    restate-refused (a .sheet .now) (a .out .now) (c .not-restated .result) (g .0 .0) (g .0 .1 .0)
+    (trailer-stopped (a .sheet .now) (g .0 .0) (g .0 .1 .0) (sym (g .1) ∙ d .read-trailer .ensures)) (c .not-restated .ensures ∙ ap notRestated (g .1))
 
-slice-aggregate-pack-sheet : tie.Need-slice-aggregate-pack-sheet
-slice-aggregate-pack-sheet c = search needs
+slice-aggregate-mark-tables : tie.Need-slice-aggregate-mark-tables
+slice-aggregate-mark-tables c = search needs
 
-pack-sheet-requires : tie.Need-pack-sheet-requires
-pack-sheet-requires c κs = (admitted-known (admitted-at (c .before .before)), refl)
+slice-aggregate-mark-tables-2 : tie.Need-slice-aggregate-mark-tables-2
+slice-aggregate-mark-tables-2 c = search needs
 
-mul-size : tie.Need-mul-size
-mul-size c = search needs
+mark-tables-requires : tie.Need-mark-tables-requires
+mark-tables-requires c κs = (trailed-at (c .before .before .before), refl, refl)
 
-add-size : tie.Need-add-size
-add-size c = let r = admitted-at (packed-read c) in let f = c .before .pack-sheet .ensures .few in omega arith
+enum-known-ran : tie.Need-enum-known-ran
+enum-known-ran c = search needs
 
-add-size-2 : tie.Need-add-size-2
-add-size-2 c = let r = admitted-at (packed-read c) in let f = c .before .pack-sheet .ensures .few in omega arith
+enum-told-2 : tie.Need-enum-told-2
+enum-told-2 c = search needs
 
-returns-2 : tie.Need-returns-2
-returns-2 c =
-    let d = c .before in
-    let k = packed-read d in
-    let made = d .before .pack-sheet in
-    restate-short (sheet-at k) (n-at k) (m-at k) (t-at k) (s-at k) (admitted-at k) (made .last .1 .1 .1 .0) (made .result)
-    (made .ensures) (out-at k) (c .if1 .taken)
+slice-aggregate-write-restated : tie.Need-slice-aggregate-write-restated
+slice-aggregate-write-restated c = search needs
 
-slice-aggregate-write-sheet : tie.Need-slice-aggregate-write-sheet
-slice-aggregate-write-sheet c = let r = admitted-at (packed-read (c .before .before)) in simp length-take (omega arith)
-
-slice-aggregate-write-sheet-2 : tie.Need-slice-aggregate-write-sheet-2
-slice-aggregate-write-sheet-2 c = search needs
-
-cast-write-sheet : tie.Need-cast-write-sheet
-cast-write-sheet c = let r = admitted-at (packed-read (c .before .before .before)) in omega arith
-
-cast-write-sheet-2 : tie.Need-cast-write-sheet-2
-cast-write-sheet-2 c = let r = admitted-at (packed-read (c .before .before .before)) in omega arith
-
-write-sheet-requires : tie.Need-write-sheet-requires
-write-sheet-requires c κs =
-    let d = c .before .before .before .before in
-    let r = admitted-at (packed-read d) in
-    let f = d .before .pack-sheet .ensures .few in
-    let left = c .before .before .before .if1 .left in
-    let kept = d .before .pack-sheet .kept .1 .1 .1 .0 in
-    (simp length-take (omega arith), omega arith, omega arith, simp length-take (omega arith))
+write-restated-requires : tie.Need-write-restated-requires
+write-restated-requires c κs =
+    let done = c .before .before in
+    let d = done .before .before .before .before in
+    let k = read-at d in
+    let told =
+    done-told (sheet-at k) (n-at k) (m-at k) (t-at k) (s-at k) (trailed-at k) (d .mark-tables .result) (owners-at d) (held-at d)
+    (d .mark-tables .ensures) (done .enum-told2 .given .1)
+    in
+    let r = admitted-check (sheet-at k) (n-at k) (m-at k) (t-at k) (s-at k) told in
+    let acc = r .sheet-accepted in
+    (record { sheet-accepted = acc; s-read = r .s-read; owned = d .mark-tables .ensures .owned acc }, r .n-read, r .m-read)
 
 same-length : tie.Need-same-length
 same-length c = search needs
 
+returns-2 : tie.Need-returns-2
+returns-2 c = search needs
+
 returns-3 : tie.Need-returns-3
 returns-3 c =
-    let w = c .before .before in
-    let d = w .before .before .before .before .before in
-    let k = packed-read d in
-    let made = d .before .pack-sheet in
-    restate-written (sheet-at k) (n-at k) (m-at k) (t-at k) (s-at k) (admitted-at k) (made .last .1 .1 .1 .0) (made .result)
-    (made .ensures) (out-at k) (w .write-sheet .last .1 .1 .1 .1 .1 .0) (w .before .before .before .before .if1 .left) (w .write-sheet .ensures)
+    let d = c .before .before .before .before .before in
+    let b = sheet-at (read-at d) in
+    let g = c .before .ran .given in
+    restate-refused b (out-at (read-at d)) _ (g .0 .0) (g .0 .1 .0)
+    (faulty-told b (d .mark-tables .result) (owners-at d) (held-at d) (d .mark-tables .ensures) (g .0 .0) (g .0 .1 .0) (g .1)) refl
 
 pub restate-spec : {M : Type 1} → statement M
 restate-spec =
     tie.close
     (tie.spec
-    check-requires
+    read-trailer-requires
     enum-known-read
     enum-told
     not-restated-requires
     returns
-    slice-aggregate-pack-sheet
-    pack-sheet-requires
-    mul-size
-    add-size
-    add-size-2
-    returns-2
-    slice-aggregate-write-sheet
-    slice-aggregate-write-sheet-2
-    cast-write-sheet
-    cast-write-sheet-2
-    write-sheet-requires
+    slice-aggregate-mark-tables
+    slice-aggregate-mark-tables-2
+    mark-tables-requires
+    enum-known-ran
+    enum-told-2
+    slice-aggregate-write-restated
+    write-restated-requires
     same-length
+    returns-2
     returns-3)

@@ -1,0 +1,117 @@
+-- `desk::check` meets its contract: the refusal of the trailer, that of marking, or the sizes of an accepted sheet.
+-- Assumes nothing.
+use mathlib.Core.Path.{refl, sym, _∙_}
+use mathlib.Core.List.{List}
+use Prim.Native.Nat.{ℕ}
+use borrow.Author.Needs.{needs}
+use Rattle.reading.specs.Reading.{Trailed}
+use Rattle.marking.specs.Marked.{MarkedRight}
+use Rattle.marking.proofs.Marking.{trailer-stopped, done-told, faulty-told}
+use Rattle.desk.proofs.Parts.{trailed-part, marked-part}
+use Rattle.desk.proofs.check.Statement.{statement}
+use Rattle.desk.proofs.check.Tie as tie
+
+abbrev sheet-at : tie.After-read → List ℕ
+sheet-at c = c .before .before .before .before .args .sheet .now
+
+abbrev n-at : tie.After-read → ℕ
+n-at c = c .read .given .0 .0
+
+abbrev m-at : tie.After-read → ℕ
+m-at c = c .read .given .0 .1 .0
+
+abbrev t-at : tie.After-read → ℕ
+t-at c = c .read .given .0 .1 .1 .0
+
+abbrev s-at : tie.After-read → ℕ
+s-at c = c .read .given .0 .1 .1 .1 .0
+
+trailed-at : (c : tie.After-read) → Trailed (sheet-at c) (n-at c) (m-at c) (t-at c) (s-at c)
+trailed-at c = sym (c .read .given .1) ∙ c .before .before .read-trailer .ensures
+
+-- ---- after marking
+
+abbrev read-at : tie.After-mark-tables → tie.After-read
+read-at c = c .before .before .before .before .before
+
+abbrev owners-at : tie.After-mark-tables → List ℕ
+owners-at c = c .mark-tables .last .1 .1 .1 .1 .1 .0
+
+abbrev held-at : tie.After-mark-tables → List ℕ
+held-at c = c .mark-tables .last .1 .1 .1 .1 .1 .1 .0
+
+marked-at : (c : tie.After-mark-tables) → MarkedRight (sheet-at (read-at c)) (c .mark-tables .result) (owners-at c) (held-at c)
+marked-at c = marked-part (sheet-at (read-at c)) (c .mark-tables .result) (owners-at c) (held-at c) (c .mark-tables .ensures)
+
+read-trailer-requires : tie.Need-read-trailer-requires
+read-trailer-requires c κs = search needs
+
+enum-known-read : tie.Need-enum-known-read
+enum-known-read c = search needs
+
+enum-told : tie.Need-enum-told
+enum-told c = search needs
+
+returns : tie.Need-returns
+returns c =
+    let g = c .enum-told .given in
+    let d = c .before .before in
+    g .1 ∙ trailer-stopped (d .before .before .args .sheet .now) (g .0 .0) (g .0 .1 .0) (sym (g .1) ∙ d .read-trailer .ensures)
+
+sub-mark-tables : tie.Need-sub-mark-tables
+sub-mark-tables c = search needs
+
+part-mark-tables-start : tie.Need-part-mark-tables-start
+part-mark-tables-start c = search needs
+
+part-mark-tables-end : tie.Need-part-mark-tables-end
+part-mark-tables-end c = search needs
+
+slice-aggregate-mark-tables : tie.Need-slice-aggregate-mark-tables
+slice-aggregate-mark-tables c = search needs
+
+slice-aggregate-mark-tables-2 : tie.Need-slice-aggregate-mark-tables-2
+slice-aggregate-mark-tables-2 c = search needs
+
+mark-tables-requires : tie.Need-mark-tables-requires
+mark-tables-requires c κs =
+    let r = c .before .before .before .before in
+    (trailed-part (sheet-at r) (n-at r) (m-at r) (t-at r) (s-at r) (trailed-at r), refl, refl)
+
+enum-known-ran : tie.Need-enum-known-ran
+enum-known-ran c = search needs
+
+enum-told-2 : tie.Need-enum-told-2
+enum-told-2 c = search needs
+
+returns-2 : tie.Need-returns-2
+returns-2 c =
+    let d = c .before .before .before .before in
+    let r = read-at d in
+    done-told (sheet-at r) (n-at r) (m-at r) (t-at r) (s-at r) (trailed-at r) (d .mark-tables .result) (owners-at d) (held-at d) (marked-at d)
+    (c .enum-told2 .given .1)
+
+returns-3 : tie.Need-returns-3
+returns-3 c =
+    let d = c .before .before .before .before .before in
+    let g = c .before .ran .given in
+    faulty-told (sheet-at (read-at d)) (d .mark-tables .result) (owners-at d) (held-at d) (marked-at d) (g .0 .0) (g .0 .1 .0) (g .1)
+
+pub check-spec : {M : Type 1} → statement M
+check-spec =
+    tie.close
+    (tie.spec
+    read-trailer-requires
+    enum-known-read
+    enum-told
+    returns
+    sub-mark-tables
+    part-mark-tables-start
+    part-mark-tables-end
+    slice-aggregate-mark-tables
+    slice-aggregate-mark-tables-2
+    mark-tables-requires
+    enum-known-ran
+    enum-told-2
+    returns-2
+    returns-3)
