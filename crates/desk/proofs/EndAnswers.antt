@@ -1,44 +1,47 @@
--- The answer of the call for end sets: of an accepted sheet the sets that marking left, else zeros.
+-- A refused sheet as it is judged; and the answer of the call for end sets: of an accepted sheet the sets that marking left, else zeros.
 -- Assumes nothing.
 use mathlib.Core.Path.{_≡_, refl, sym, ap, _∙_}
 use mathlib.Core.Bool.{Bool, true, false, cond}
 use mathlib.Core.List.{List, map}
 use Prim.Native.Nat.{ℕ}
+use native.Mathlib.Omega.{arith}
 use lib.Dec.{ltb}
-use lib.ListN.{getD, replicate}
+use lib.ListN.{length, getD, replicate}
 use Rattle.sets.specs.Lists.{below}
 use Rattle.sets.proofs.Bools.{ltb-true}
 use Rattle.sheet.specs.Layout.{componentCount}
-use Rattle.sheet.specs.Verdict.{Verdict}
-use Rattle.reading.specs.declared.Reading.the-variants.{Accepted as sound, Refused as turned}
-use Rattle.engine.specs.declared.Ran.{Ran}
+use Rattle.sheet.specs.Verdict.{Verdict, verdict}
+use Rattle.reading.specs.declared.Reading.{Reading}
+use Rattle.reading.specs.declared.Reading.the-variants.{Refused as turned}
+use Rattle.reading.specs.Reading.{readingOf}
 use Rattle.answers.specs.EndSets.{endSet}
-use Rattle.marking.specs.Marked.{MarkedRight}
 use Rattle.restating.specs.Known.{Admitted}
-use Rattle.restating.proofs.Accepting.{admitted-check, turned-refused}
+use Rattle.restating.proofs.Accepting.{turned-refused}
 use Rattle.desk.specs.declared.EndSets.{EndSets}
-use Rattle.desk.specs.Calls.{keptOf, endArrayBy, CheckRight, EndSetsRight}
+use Rattle.desk.specs.Calls.{keptOf, endArrayBy, Judged, EndSetsRight}
 use Rattle.desk.proofs.Arrays.{map-below}
 
-module _ (b : List ℕ) (r : EndSets) where
-  pub ends-refused : (number index : ℕ) → CheckRight b (turned number index) → r .reading ≡ turned number index
-      → r .sets ≡ replicate 16 0 → EndSetsRight b r
-  ends-refused number index told e zeros =
-      record { verdict-told = e ∙ told; sets-told = zeros ∙ ap (λ (v : Verdict). endArrayBy v b) (sym (turned-refused b number index told)) }
+-- a refused sheet has no end sets
+pub judged-refused : (b : List ℕ) (k i : ℕ) (held : List ℕ) → length held ≡ 16 → turned k i ≡ readingOf b (verdict b) → Judged b (turned k i) held
+judged-refused b k i held size e =
+    let v = turned-refused b k i e in
+    record { size = size; verdict-told = e; ends = λ acc j l. let z : _≡_ {A = ℕ} 0 1 = cc in absurd (omega arith) }
 
-  pub ends-kept : (n m t s : ℕ) → CheckRight b (sound n m t s) → r .reading ≡ sound n m t s
-      → (ran : Ran) (owners held : List ℕ) → MarkedRight b ran owners held → r .sets ≡ map (keptOf held n) (below 16) → EndSetsRight b r
-  ends-kept n m t s told e ran owners held k f =
+module _ (b : List ℕ) (read : Reading) (held : List ℕ) (k : Judged b read held) (r : EndSets) (same : r .reading ≡ read) where
+  pub ends-refused : (number index : ℕ) → read ≡ turned number index → r .sets ≡ replicate 16 0 → EndSetsRight b r
+  ends-refused number index e zeros =
+      let v = turned-refused b number index (sym e ∙ k .verdict-told) in
+      record { verdict-told = same ∙ k .verdict-told; sets-told = zeros ∙ ap (λ (v : Verdict). endArrayBy v b) (sym v) }
+
+  pub ends-kept : (n m t s : ℕ) → Admitted b n m t s → r .sets ≡ map (keptOf held n) (below 16) → EndSetsRight b r
+  ends-kept n m t s a e =
       record {
-        verdict-told = e ∙ told;
+        verdict-told = same ∙ k .verdict-told;
         sets-told =
-            f ∙ map-below (keptOf held n) (λ j. cond (ltb j (componentCount b)) (endSet b j) 0) 16 (λ j l. each j)
+            e ∙ map-below (keptOf held n) (λ j. cond (ltb j (componentCount b)) (endSet b j) 0) 16 (λ j l. each j)
             ∙ ap (λ (v : Verdict). endArrayBy v b) (sym (a .sheet-accepted));
       }
     where
-      a : Admitted b n m t s
-      a = admitted-check b n m t s told
-
       each : (j : ℕ) → keptOf held n j ≡ cond (ltb j (componentCount b)) (endSet b j) 0
       each j = rw (a .n-read) (go (ltb j (componentCount b)) refl)
         where

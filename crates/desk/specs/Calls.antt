@@ -4,12 +4,12 @@ use mathlib.Core.Path.{_≡_}
 use mathlib.Core.Bool.{cond}
 use mathlib.Core.List.{List, map}
 use mathlib.Core.Option.{Option, none, some as just}
-use Prim.Native.Nat.{ℕ}
+use Prim.Native.Nat.{ℕ, _<_}
 use lib.Dec.{ltb}
-use lib.ListN.{getD, replicate}
+use lib.ListN.{length, getD, replicate}
 use Rattle.sets.specs.Lists.{below}
 use Rattle.sheet.specs.Layout.{componentCount}
-use Rattle.sheet.specs.Verdict.{Verdict, accepted, refused, verdict}
+use Rattle.sheet.specs.Verdict.{Verdict, accepted, refused, verdict, Accepted}
 use Rattle.reading.specs.declared.Reading.{Reading}
 use Rattle.reading.specs.declared.Reading.the-variants.{Accepted as readAccepted, Refused as readRefused}
 use Rattle.reading.specs.Reading.{readingOf}
@@ -28,6 +28,12 @@ keptOf l n j = cond (ltb j n) (getD l j 0) 0
 abbrev pub endArrayBy : Verdict → List ℕ → List ℕ
 endArrayBy accepted b = map (λ j. cond (ltb j (componentCount b)) (endSet b j) 0) (below 16)
 endArrayBy (refused k i) b = replicate 16 0
+
+-- the verdict on the sheet b, and the array afterwards: its first sets are the end sets of an accepted sheet
+pub record Judged (b : List ℕ) (r : Reading) (held : List ℕ) : Type 0 where
+  pub size : length held ≡ 16
+  pub verdict-told : r ≡ readingOf b (verdict b)
+  pub ends : Accepted b → (j : ℕ) → j < componentCount b → getD held j 0 ≡ endSet b j
 
 -- the answer of the call for end sets: the verdict, and the array
 pub record EndSetsRight (b : List ℕ) (r : EndSets) : Type 0 where

@@ -5,7 +5,7 @@ ghost use mathlib.Core.List.{map};
 ghost use Prim.Native.Nat.{_≤_};
 ghost use lib.ListN.{length};
 ghost use Rattle.sets.specs.Lists.{below};
-ghost use Rattle.desk.specs.Calls.{keptOf, notProcess, CheckRight, EndSetsRight, ProcessRight};
+ghost use Rattle.desk.specs.Calls.{keptOf, notProcess, Judged, CheckRight, EndSetsRight, ProcessRight};
 use engine::Ran;
 use offences::Offence;
 use reading::Reading;
@@ -48,47 +48,47 @@ fn first_sets(held: &[u64], n: usize) -> [u64; 16]
     sets
 }
 
-// The verdict on a sheet: accepted with its sizes, or refused with number and step index. The sheet is handed on as a part, whose bounds are
-// in registers; the bounds of the sheet itself would be copied in memory.
-pub fn check(sheet: &[u8]) -> Reading
-    ensures { λ r. ⌜ CheckRight (now (sheet .entry)) r ⌝ }
+// The verdict on a sheet. Of an accepted sheet the first sets held are the end sets of its components. The sheet is handed on as a part,
+// whose bounds are in registers; the bounds of the sheet itself would be copied in memory.
+fn marked(sheet: &[u8], held: &mut [u64]) -> Reading
+    requires { ⌜ length (now held) ≡ 16 ⌝ }
+    ensures { λ r. ⌜ Judged (now (sheet .entry)) r (now (held .exit)) ⌝ }
 {
     let read = reading::read_trailer(sheet);
     let Reading::Accepted { n, m, t, s } = read else {
         return read;
     };
     let mut owners = [0u64; 64];
-    let mut held = [0u64; 16];
-    let ran = marking::mark_tables(&sheet[0..], n, m, t, s, &mut owners, &mut held);
+    let ran = marking::mark_tables(&sheet[0..], n, m, t, s, &mut owners, held);
     let Ran::Faulty { number, index } = ran else {
         return read;
     };
     Reading::Refused { number, index }
 }
 
+// The verdict on a sheet: accepted with its sizes, or refused with number and step index.
+pub fn check(sheet: &[u8]) -> Reading
+    ensures { λ r. ⌜ CheckRight (now (sheet .entry)) r ⌝ }
+{
+    let mut held = [0u64; 16];
+    marked(sheet, &mut held)
+}
+
 // The end sets of a sheet: where each component may be after the last step.
 pub fn end_sets(sheet: &[u8]) -> EndSets
     ensures { λ r. ⌜ EndSetsRight (now (sheet .entry)) r ⌝ }
 {
-    let read = reading::read_trailer(sheet);
+    let mut held = [0u64; 16];
+    let read = marked(sheet, &mut held);
     let Reading::Accepted { n, m, t, s } = read else {
         return EndSets {
             reading: read,
             sets: [0u64; 16],
         };
     };
-    let mut owners = [0u64; 64];
-    let mut held = [0u64; 16];
-    let ran = marking::mark_tables(&sheet[0..], n, m, t, s, &mut owners, &mut held);
-    let Ran::Faulty { number, index } = ran else {
-        return EndSets {
-            reading: read,
-            sets: first_sets(&held, n),
-        };
-    };
     EndSets {
-        reading: Reading::Refused { number, index },
-        sets: [0u64; 16],
+        reading: read,
+        sets: first_sets(&held, n),
     }
 }
 

@@ -20,7 +20,7 @@ tablesNumber records section n m =
     (numberIf (some (transitionWrong (sectionTables records section n m)) (sectionTables records section n m .transitions)) 7
     (numberIf (not (risingBytes (parts 4 (length section / 4) section))) 8 0)))
 
--- refusals 5 to 9 of a sheet whose trailer passed: the lowest that holds, or 0
+-- refusals 5 to 9 of a sheet whose trailer passed: "The lowest number whose condition holds", or 0
 abbrev pub tablesRefusal : List ℕ → ℕ
 tablesRefusal b =
     numberIf (recordsWrong b) 5

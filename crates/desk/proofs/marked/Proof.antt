@@ -1,18 +1,24 @@
--- `desk::check` meets its contract: the refusal of the trailer, that of marking, or the sizes of an accepted sheet.
+-- `desk::marked` meets its contract: the refusal of the trailer, that of marking, or the sizes of an accepted sheet and its end sets.
 -- Assumes nothing.
-use mathlib.Core.Path.{refl, sym, _∙_}
+use mathlib.Core.Path.{refl, sym, subst, _∙_}
 use mathlib.Core.List.{List}
 use Prim.Native.Nat.{ℕ}
 use borrow.Author.Needs.{needs}
+use Rattle.reading.specs.declared.Reading.{Reading}
 use Rattle.reading.specs.Reading.{Trailed}
 use Rattle.marking.specs.Marked.{MarkedRight}
 use Rattle.marking.proofs.Marking.{trailer-stopped, done-told, faulty-told}
+use Rattle.desk.specs.Calls.{Judged}
 use Rattle.desk.proofs.Parts.{trailed-part, marked-part}
-use Rattle.desk.proofs.check.Statement.{statement}
-use Rattle.desk.proofs.check.Tie as tie
+use Rattle.desk.proofs.EndAnswers.{judged-refused}
+use Rattle.desk.proofs.marked.Statement.{statement}
+use Rattle.desk.proofs.marked.Tie as tie
+
+abbrev start-at : tie.After-read-trailer → tie.Start
+start-at c = c .before .before .before
 
 abbrev sheet-at : tie.After-read → List ℕ
-sheet-at c = c .before .before .before .before .args .sheet .now
+sheet-at c = start-at (c .before .before) .args .sheet .now
 
 abbrev n-at : tie.After-read → ℕ
 n-at c = c .read .given .0 .0
@@ -56,7 +62,10 @@ returns : tie.Need-returns
 returns c =
     let g = c .enum-told .given in
     let d = c .before .before in
-    g .1 ∙ trailer-stopped (d .before .before .args .sheet .now) (g .0 .0) (g .0 .1 .0) (sym (g .1) ∙ d .read-trailer .ensures)
+    let s = start-at d in
+    let b = s .args .sheet .now in
+    subst (λ (r : Reading). Judged b r (s .args .held .now)) (sym (g .1))
+    (judged-refused b (g .0 .0) (g .0 .1 .0) _ (s .pre) (trailer-stopped b (g .0 .0) (g .0 .1 .0) (sym (g .1) ∙ d .read-trailer .ensures)))
 
 sub-mark-tables : tie.Need-sub-mark-tables
 sub-mark-tables c = search needs
@@ -70,13 +79,10 @@ part-mark-tables-end c = search needs
 slice-aggregate-mark-tables : tie.Need-slice-aggregate-mark-tables
 slice-aggregate-mark-tables c = search needs
 
-slice-aggregate-mark-tables-2 : tie.Need-slice-aggregate-mark-tables-2
-slice-aggregate-mark-tables-2 c = search needs
-
 mark-tables-requires : tie.Need-mark-tables-requires
 mark-tables-requires c κs =
     let r = c .before .before .before .before in
-    (trailed-part (sheet-at r) (n-at r) (m-at r) (t-at r) (s-at r) (trailed-at r), refl, refl)
+    (trailed-part (sheet-at r) (n-at r) (m-at r) (t-at r) (s-at r) (trailed-at r), refl, start-at (r .before .before) .pre)
 
 enum-known-ran : tie.Need-enum-known-ran
 enum-known-ran c = search needs
@@ -84,21 +90,35 @@ enum-known-ran c = search needs
 enum-told-2 : tie.Need-enum-told-2
 enum-told-2 c = search needs
 
+same-length : tie.Need-same-length
+same-length c = search needs
+
 returns-2 : tie.Need-returns-2
 returns-2 c =
-    let d = c .before .before .before .before in
+    let d = c .before .before .before .before .before in
     let r = read-at d in
-    done-told (sheet-at r) (n-at r) (m-at r) (t-at r) (s-at r) (trailed-at r) (d .mark-tables .result) (owners-at d) (held-at d) (marked-at d)
-    (c .enum-told2 .given .1)
+    let h = marked-at d in
+    record {
+      size = h .size;
+      verdict-told =
+          done-told (sheet-at r) (n-at r) (m-at r) (t-at r) (s-at r) (trailed-at r) (d .mark-tables .result) (owners-at d) (held-at d) h
+          (c .enum-told2 .given .1);
+      ends = h .ends;
+    }
+
+same-length-2 : tie.Need-same-length-2
+same-length-2 c = search needs
 
 returns-3 : tie.Need-returns-3
 returns-3 c =
-    let d = c .before .before .before .before .before in
+    let d = c .before .before .before .before .before .before in
+    let b = sheet-at (read-at d) in
     let g = c .before .ran .given in
-    faulty-told (sheet-at (read-at d)) (d .mark-tables .result) (owners-at d) (held-at d) (marked-at d) (g .0 .0) (g .0 .1 .0) (g .1)
+    judged-refused b (g .0 .0) (g .0 .1 .0) _ (marked-at d .size)
+    (faulty-told b (d .mark-tables .result) (owners-at d) (held-at d) (marked-at d) (g .0 .0) (g .0 .1 .0) (g .1))
 
-pub check-spec : {M : Type 1} → statement M
-check-spec =
+pub marked-spec : {M : Type 1} → statement M
+marked-spec =
     tie.close
     (tie.spec
     read-trailer-requires
@@ -109,9 +129,10 @@ check-spec =
     part-mark-tables-start
     part-mark-tables-end
     slice-aggregate-mark-tables
-    slice-aggregate-mark-tables-2
     mark-tables-requires
     enum-known-ran
     enum-told-2
+    same-length
     returns-2
+    same-length-2
     returns-3)
