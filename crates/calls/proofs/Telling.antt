@@ -15,7 +15,7 @@ use Rattle.sheet.specs.Verdict.{Verdict, verdict}
 use Rattle.sheet.proofs.RoundTrip.{steps-length}
 use Rattle.answers.specs.Answers.{given, after}
 use Rattle.answers.specs.ProcessCheck.{processCheck}
-use Rattle.values.specs.Numbers.{Low}
+use Rattle.calls.specs.values.Numbers.{Low}
 
 low-answer : (v : Verdict) (o : Option ℕ) (most : ℕ) → most < 2 ^ 64 → ((i : ℕ) → o ≡ just i → i < most) → Low (after v (given o))
 low-answer (Verdict.refused k i) o most h f = tt

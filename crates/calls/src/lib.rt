@@ -1,5 +1,10 @@
 // The desk's calls for C and for languages that call C: a slice is passed as a pointer and a length, the answer's values go into an array
 // that the caller lends, and what is returned is 0 or the number of the refusal.
+mod filling;
+mod pair_calls;
+mod values;
+mod verdict_values;
+
 ghost use mathlib.Core.Path.{_≡_};
 ghost use lib.ListN.{length};
 ghost use Rattle.sheet.specs.Verdict.{verdict};
@@ -14,10 +19,12 @@ ghost use Rattle.answers.specs.Stuck.{stuck};
 ghost use Rattle.answers.specs.Report.{one};
 ghost use Rattle.desk.specs.Calls.{endArrayBy};
 ghost use Rattle.report.specs.Printouts.{printedOf, outputOf};
-ghost use Rattle.filling.specs.Handing.{filled, itself, Handed, PairHanded, ReadHanded};
-ghost use Rattle.values.specs.Numbers.{processTold, answerTold, printedTold};
-ghost use Rattle.pair_calls.specs.Numbers.{pairTold};
-ghost use Rattle.verdict_values.specs.Numbers.{readTold};
+ghost use Rattle.calls.specs.filling.Handing.{filled, itself, Handed, PairHanded, ReadHanded};
+ghost use Rattle.calls.specs.values.Numbers.{processTold, answerTold, printedTold};
+ghost use Rattle.calls.specs.pair_calls.Numbers.{pairTold};
+ghost use Rattle.calls.specs.verdict_values.Numbers.{readTold};
+use desk::figures;
+use desk::rewriting;
 
 // The verdict: 0 for an accepted sheet, and `answer` becomes 0, n, m, T, S; else the refusal's number, and `answer` becomes its step
 // index and four zeros.

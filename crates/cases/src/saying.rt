@@ -2,7 +2,8 @@
 use comparing::Lean;
 use comparing::Work;
 use desk::Process;
-use rewriting::Restated;
+use desk::rewriting;
+use desk::rewriting::Restated;
 
 // Prints bytes.
 pub fn say(text: &[u8]) {

@@ -19,8 +19,8 @@ use Rattle.answers.proofs.Answers.{given-written}
 use Rattle.answers.proofs.Restated.{restated-normal, restated-step-count}
 use Rattle.answers.proofs.PairAnswers.{pair-first, pair-second, pair-apart}
 use Rattle.answers.proofs.Demands.{demand1, answers}
-use Rattle.rewriting.specs.Demands.{Wrote}
-use Rattle.rewriting.proofs.Demands.{call-demand3}
+use Rattle.desk.specs.rewriting.Demands.{Wrote}
+use Rattle.desk.proofs.rewriting.Demands.{call-demand3}
 use Rattle.comparing.specs.declared.Work.{Work}
 use Rattle.comparing.specs.declared.Lean.{Lean}
 use Rattle.comparing.specs.Pairing.{workOf, leanOf, LeanRight}

@@ -13,14 +13,14 @@ use Rattle.answers.specs.SameWork.{sameWork}
 use Rattle.answers.specs.Leaner.{winner, stepSection, leaner}
 use Rattle.answers.proofs.PairAnswers.{pair-given}
 use Rattle.answers.proofs.Leaner.{leaner-first, leaner-second, leaner-refused}
-use Rattle.pairs.specs.declared.Pair.{Pair}
-use Rattle.pairs.specs.declared.Pair.the-variants.{Sound, Refused as pairRefused}
+use Rattle.comparing.specs.declared.pairs.Pair.{Pair}
+use Rattle.comparing.specs.declared.pairs.Pair.the-variants.{Sound, Refused as pairRefused}
 use Rattle.comparing.specs.declared.Work.{Work}
 use Rattle.comparing.specs.declared.Lean.{Lean}
-use Rattle.restating.specs.Known.{Known}
-use Rattle.pairs.specs.Judging.{sizesOf, pairOf}
+use Rattle.desk.specs.restating.Known.{Known}
+use Rattle.comparing.specs.pairs.Judging.{sizesOf, pairOf}
 use Rattle.comparing.specs.Pairing.{workOf, notWork, leanOf, notLean}
-use Rattle.pairs.proofs.PairRefusals.{SoundPair, sound-pair, refused-alike}
+use Rattle.comparing.proofs.pairs.PairRefusals.{SoundPair, sound-pair, refused-alike}
 
 -- the second sheet has fewer restated steps
 abbrev fewer : List ℕ → List ℕ → Bool

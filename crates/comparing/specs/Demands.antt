@@ -10,7 +10,7 @@ use Rattle.sheet.specs.Numbers.{AreBytes}
 use Rattle.sheet.specs.Layout.{front, stepCount}
 use Rattle.sheet.specs.Verdict.{Verdict, IsVerdict, Accepted}
 use Rattle.answers.specs.Related.{SameTables, RelatedSheets}
-use Rattle.rewriting.specs.Demands.{Wrote}
+use Rattle.desk.specs.rewriting.Demands.{Wrote}
 use Rattle.comparing.specs.declared.Work.{Work}
 use Rattle.comparing.specs.declared.Lean.{Lean}
 use Rattle.comparing.specs.Pairing.{WorkRight, LeanRight, SectionRight}

@@ -1,2 +1,4 @@
 pub mod Pairing
 pub mod Demands
+pub mod parts
+pub mod pairs

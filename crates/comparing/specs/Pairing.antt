@@ -7,8 +7,8 @@ use Prim.Native.Nat.{ℕ}
 use Rattle.answers.specs.Pairs.{PairAnswer, given, refused}
 use Rattle.answers.specs.SameWork.{sameWork}
 use Rattle.answers.specs.Leaner.{winner, leaner}
-use Rattle.pairs.specs.declared.Pair.{Pair}
-use Rattle.pairs.specs.declared.Pair.the-variants.{Sound, Refused as pairRefused}
+use Rattle.comparing.specs.declared.pairs.Pair.{Pair}
+use Rattle.comparing.specs.declared.pairs.Pair.the-variants.{Sound, Refused as pairRefused}
 use Rattle.comparing.specs.declared.Work.{Work}
 use Rattle.comparing.specs.declared.Work.the-variants.{Same, Other, Refused as workRefused}
 use Rattle.comparing.specs.declared.Lean.{Lean}

@@ -1,8 +1,12 @@
 // Two sheets given together: whether they do the same work, and which of them is leaner. Each call takes any bytes and always answers;
 // what it answers is fixed by a definition of crates/answers.
+mod pairs;
+mod parts;
+mod weighing;
+
 ghost use mathlib.Core.Path.{_≡_};
 ghost use Rattle.comparing.specs.Pairing.{notWork, notLean, WorkRight, LeanRight, SectionRight};
-use pairs::Pair;
+use crate::pairs::Pair;
 
 // Whether two accepted sheets over the same tables do the same work, or the refusal of the pair with the sheet that it is of.
 pub enum Work {

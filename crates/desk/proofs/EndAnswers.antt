@@ -15,8 +15,8 @@ use Rattle.reading.specs.declared.Reading.{Reading}
 use Rattle.reading.specs.declared.Reading.the-variants.{Refused as turned}
 use Rattle.reading.specs.Reading.{readingOf}
 use Rattle.answers.specs.EndSets.{endSet}
-use Rattle.restating.specs.Known.{Admitted}
-use Rattle.restating.proofs.Accepting.{turned-refused}
+use Rattle.desk.specs.restating.Known.{Admitted}
+use Rattle.desk.proofs.restating.Accepting.{turned-refused}
 use Rattle.desk.specs.declared.EndSets.{EndSets}
 use Rattle.desk.specs.Calls.{keptOf, endArrayBy, Judged, EndSetsRight}
 use Rattle.desk.proofs.Arrays.{map-below}

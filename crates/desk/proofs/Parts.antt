@@ -7,8 +7,8 @@ use native.Mathlib.Omega.{arith}
 use lib.ListN.{length, take}
 use lib.Seq.{take-all}
 use Rattle.reading.specs.Reading.{Trailed}
-use Rattle.engine.specs.declared.Ran.{Ran}
-use Rattle.marking.specs.Marked.{MarkedRight}
+use Rattle.machine.specs.declared.engine.Ran.{Ran}
+use Rattle.desk.specs.marking.Marked.{MarkedRight}
 
 module _ (b : List ℕ) where
   part-whole : take (length b - 0) b ≡ b

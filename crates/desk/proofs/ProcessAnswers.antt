@@ -19,8 +19,8 @@ use Rattle.answers.specs.Answers.{Answer, given}
 use Rattle.answers.specs.ProcessCheck.{processCheck}
 use Rattle.desk.specs.declared.Process.{Process}
 use Rattle.desk.specs.Calls.{processOf, notProcess}
-use Rattle.restating.specs.Known.{Admitted}
-use Rattle.restating.proofs.Accepting.{turned-refused, readSteps, section-told, dependence-told}
+use Rattle.desk.specs.restating.Known.{Admitted}
+use Rattle.desk.proofs.restating.Accepting.{turned-refused, readSteps, section-told, dependence-told}
 
 refused-answer : (b : List ℕ) (k i : ℕ) → verdict b ≡ Verdict.refused k i → processCheck b ≡ Answer.refused k i
 unfolding processCheck

@@ -1,13 +1,20 @@
 // The desk's calls on one sheet that write nothing. Each takes any bytes and always answers; what it answers is fixed by a definition of
 // specs/.
+pub mod figures;
+pub mod marking;
+pub mod measures;
+pub mod restating;
+pub mod rewriting;
+
 ghost use mathlib.Core.Path.{_≡_};
 ghost use mathlib.Core.List.{map};
 ghost use Prim.Native.Nat.{_≤_};
 ghost use lib.ListN.{length};
 ghost use Rattle.sets.specs.Lists.{below};
 ghost use Rattle.desk.specs.Calls.{keptOf, notProcess, Judged, CheckRight, EndSetsRight, ProcessRight};
-use engine::Ran;
-use offences::Offence;
+use dependence::offences;
+use dependence::offences::Offence;
+use machine::engine::Ran;
 use reading::Reading;
 
 // The verdict on a sheet, and for an accepted one the end set of each component.

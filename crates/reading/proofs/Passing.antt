@@ -17,8 +17,8 @@ use Rattle.sheet.specs.Sections.{Alphabets}
 use Rattle.sheet.specs.Verdict.{Verdict, accepted, refused, refuseIf}
 use Rattle.sheet.proofs.Limits.{length-right, counts-right, offsets-right}
 use Rattle.sheet.proofs.Passing.{checked}
-use Rattle.trailer.specs.Numbered.{numberIf, trailerNumber}
-use Rattle.trailer.proofs.Trailer.{components-read, actions-read}
+use Rattle.reading.specs.trailer.Numbered.{numberIf, trailerNumber}
+use Rattle.reading.proofs.trailer.Trailer.{components-read, actions-read}
 use Rattle.reading.specs.declared.Reading.the-variants.{Accepted as sound, Refused as turned}
 use Rattle.reading.specs.Reading.{readingOf, trailerThen, Trailed}
 use Rattle.reading.specs.Tests.{tablesNumber, tablesRefusal}

@@ -19,7 +19,7 @@ use Rattle.sheet.specs.Layout.{transitionsAt, stepsAt, componentCount, actionCo
 use Rattle.sheet.specs.Refusals.{recordWrong, recordsWrong, actionUnused, transitionWrong, transitionsWrong, risingBytes, orderWrong}
 use Rattle.sheet.specs.Sections.{sectionTables}
 use Rattle.sheet.proofs.Numbers.{drop-take, field-within, parts-part}
-use Rattle.trailer.specs.Numbered.{numberIf}
+use Rattle.reading.specs.trailer.Numbered.{numberIf}
 use Rattle.reading.specs.Tests.{tablesNumber}
 
 -- ---- two tests that agree

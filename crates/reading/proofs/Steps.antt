@@ -9,7 +9,7 @@ use Rattle.sets.specs.Bits.{members}
 use Rattle.systems.specs.Checking.{flat}
 use Rattle.sheet.specs.Numbers.{number, field}
 use Rattle.sheet.proofs.Numbers.{number-part}
-use Rattle.transitions.proofs.Parts.{partsFrom, parts-next}
+use Rattle.reading.proofs.transitions.Parts.{partsFrom, parts-next}
 
 -- how many actions steps have together, each given by its bytes; and those from part k on
 abbrev pub counted : List (List ℕ) → ℕ

@@ -1,2 +1,5 @@
 pub mod Tests
 pub mod Reading
+pub mod trailer
+pub mod records
+pub mod transitions

@@ -10,7 +10,7 @@ use Rattle.sheet.specs.Numbers.{parts}
 use Rattle.sheet.specs.Layout.{alphabetOf}
 use Rattle.sheet.specs.Refusals.{recordWrong, recordsWrong, actionUnused, transitionWrong, transitionsWrong, risingBytes, orderWrong, tooManyActions}
 use Rattle.sheet.specs.Sections.{sectionTables}
-use Rattle.trailer.specs.Numbered.{numberIf}
+use Rattle.reading.specs.trailer.Numbered.{numberIf}
 
 -- refusals 5 to 8 of the records and the transitions, each as a part of the sheet: the lowest that holds, or 0
 unfoldable pub tablesNumber : List ℕ → List ℕ → ℕ → ℕ → ℕ

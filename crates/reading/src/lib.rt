@@ -1,4 +1,8 @@
 // A sheet read and checked, refusals 1 to 9: the trailer, and a checker for each section, which is handed to it as a part of the sheet.
+mod records;
+mod trailer;
+mod transitions;
+
 ghost use mathlib.Core.Path.{_≡_};
 ghost use mathlib.Core.List.{map};
 ghost use Prim.Native.Nat.{_*_, _/_, _≤_};

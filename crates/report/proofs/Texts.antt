@@ -21,14 +21,14 @@ use Rattle.answers.specs.Report.{acceptedWord, refusedWord, endWord, line, summ
 use Rattle.answers.proofs.Normal.{normal-actions, normal-no-longer}
 use Rattle.answers.proofs.Restated.{restated-normal, accepted-limits, accepted-order, accepted-fine}
 use Rattle.answers.proofs.Reports.{report-refused, report-accepted}
-use Rattle.printing.specs.Texts.{TextAt, stepTexts, endTexts}
-use Rattle.printing.proofs.Bounds.{line-most, steps-most, ends-most}
-use Rattle.restating.specs.Known.{PackedSteps}
-use Rattle.measures.specs.Ends.{EndsKnown}
-use Rattle.measures.proofs.EndArrays.{set-at}
+use Rattle.report.specs.printing.Texts.{TextAt, stepTexts, endTexts}
+use Rattle.report.proofs.printing.Bounds.{line-most, steps-most, ends-most}
+use Rattle.desk.specs.restating.Known.{PackedSteps}
+use Rattle.desk.specs.measures.Ends.{EndsKnown}
+use Rattle.desk.proofs.measures.EndArrays.{set-at}
 use Rattle.report.specs.declared.Printed.the-variants.{Text}
-use Rattle.summary.specs.Summaries.{summaryOf}
-use Rattle.fitting.specs.Fitting.{outputUnless, fitted}
+use Rattle.report.specs.summary.Summaries.{summaryOf}
+use Rattle.report.specs.fitting.Fitting.{outputUnless, fitted}
 use Rattle.report.specs.Printouts.{unlessShort, printedOf, outputOf}
 
 -- ---- the lines of an accepted sheet

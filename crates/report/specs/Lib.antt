@@ -1,1 +1,4 @@
 pub mod Printouts
+pub mod printing
+pub mod summary
+pub mod fitting

@@ -8,7 +8,7 @@ use lib.ListN.{length}
 use Rattle.reading.specs.declared.Reading.{Reading}
 use Rattle.reading.specs.declared.Reading.the-variants.{Accepted as readAccepted, Refused as readRefused}
 use Rattle.answers.specs.Report.{report}
-use Rattle.fitting.specs.Fitting.{fitted}
+use Rattle.report.specs.fitting.Fitting.{fitted}
 use Rattle.report.specs.declared.Printed.{Printed}
 use Rattle.report.specs.declared.Printed.the-variants.{Text, TooShort}
 

@@ -4,26 +4,11 @@ use mathlib.Core.Path.{ap, _∙_}
 use mathlib.Core.List.{List}
 use Prim.Native.Nat.{ℕ}
 use borrow.Author.Needs.{needs}
-use Rattle.filling.specs.declared.ReadTold.{ReadTold}
-use Rattle.filling.specs.Handing.{filled}
-use Rattle.verdict_values.specs.Numbers.{readTold}
+use Rattle.calls.specs.declared.filling.ReadTold.{ReadTold}
+use Rattle.calls.specs.filling.Handing.{filled}
+use Rattle.calls.specs.verdict_values.Numbers.{readTold}
 use Rattle.calls.proofs.oatmist_end_sets.Statement.{statement}
 use Rattle.calls.proofs.oatmist_end_sets.Tie as tie
-
-end-sets-requires : tie.Need-end-sets-requires
-end-sets-requires c κs = search needs
-
-slice-aggregate-fill : tie.Need-slice-aggregate-fill
-slice-aggregate-fill c = search needs
-
-fill-requires : tie.Need-fill-requires
-fill-requires c κs = search needs
-
-read-told-requires : tie.Need-read-told-requires
-read-told-requires c κs = search needs
-
-same-length : tie.Need-same-length
-same-length c = search needs
 
 returns : tie.Need-returns
 returns c =
@@ -38,9 +23,9 @@ pub oatmist-end-sets-spec : {M : Type 1} → statement M
 oatmist-end-sets-spec =
     tie.close
     (tie.spec
-    end-sets-requires
-    slice-aggregate-fill
-    fill-requires
-    read-told-requires
-    same-length
+    (λ c κs. search needs)
+    (λ c. search needs)
+    (λ c κs. search needs)
+    (λ c κs. search needs)
+    (λ c. search needs)
     returns)

@@ -2,25 +2,16 @@
 -- Assumes nothing.
 use mathlib.Core.Path.{sym, ap, subst, _∙_}
 use borrow.Author.Needs.{needs}
-use Rattle.values.specs.Numbers.{processTold, Low}
+use Rattle.calls.specs.values.Numbers.{processTold, Low}
 use Rattle.calls.proofs.Telling.{process-low}
-use Rattle.filling.proofs.Equals.{handed-as}
+use Rattle.calls.proofs.filling.Equals.{handed-as}
 use Rattle.calls.proofs.oatmist_process.Statement.{statement}
 use Rattle.calls.proofs.oatmist_process.Tie as tie
-
-process-check-requires : tie.Need-process-check-requires
-process-check-requires c κs = search needs
 
 process-told-requires : tie.Need-process-told-requires
 process-told-requires c κs =
     let start = c .before .before .before in
     subst Low (sym (c .process-check .ensures)) (process-low (start .args .sheet .now) (start .good .0 .0))
-
-hand-requires : tie.Need-hand-requires
-hand-requires c κs = search needs
-
-same-length : tie.Need-same-length
-same-length c = search needs
 
 returns : tie.Need-returns
 returns c =
@@ -29,4 +20,4 @@ returns c =
     handed-as (told .process-told .ensures ∙ ap processTold (told .before .process-check .ensures)) (h .hand .ensures)
 
 pub oatmist-process-spec : {M : Type 1} → statement M
-oatmist-process-spec = tie.close (tie.spec process-check-requires process-told-requires hand-requires same-length returns)
+oatmist-process-spec = tie.close (tie.spec (λ c κs. search needs) process-told-requires (λ c κs. search needs) (λ c. search needs) returns)

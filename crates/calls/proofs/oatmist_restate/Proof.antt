@@ -2,26 +2,11 @@
 -- Assumes nothing.
 use mathlib.Core.Path.{ap, _∙_}
 use borrow.Author.Needs.{needs}
-use Rattle.filling.specs.Handing.{itself}
-use Rattle.values.specs.Numbers.{answerTold}
-use Rattle.filling.proofs.Equals.{handed-as}
+use Rattle.calls.specs.filling.Handing.{itself}
+use Rattle.calls.specs.values.Numbers.{answerTold}
+use Rattle.calls.proofs.filling.Equals.{handed-as}
 use Rattle.calls.proofs.oatmist_restate.Statement.{statement}
 use Rattle.calls.proofs.oatmist_restate.Tie as tie
-
-restate-requires : tie.Need-restate-requires
-restate-requires c κs = search needs
-
-restated-told-requires : tie.Need-restated-told-requires
-restated-told-requires c κs = search needs
-
-hand-requires : tie.Need-hand-requires
-hand-requires c κs = search needs
-
-same-length : tie.Need-same-length
-same-length c = search needs
-
-same-length-2 : tie.Need-same-length-2
-same-length-2 c = search needs
 
 returns : tie.Need-returns
 returns c =
@@ -33,4 +18,4 @@ returns c =
     )
 
 pub oatmist-restate-spec : {M : Type 1} → statement M
-oatmist-restate-spec = tie.close (tie.spec restate-requires restated-told-requires hand-requires same-length same-length-2 returns)
+oatmist-restate-spec = tie.close (tie.spec (λ c κs. search needs) (λ c κs. search needs) (λ c κs. search needs) (λ c. search needs) (λ c. search needs) returns)

@@ -6,24 +6,6 @@ use borrow.Author.Needs.{needs}
 use Rattle.comparing.proofs.leaner.Statement.{statement}
 use Rattle.comparing.proofs.leaner.Tie as tie
 
-both-requires : tie.Need-both-requires
-both-requires c κs = search needs
-
-enum-known-pair : tie.Need-enum-known-pair
-enum-known-pair c = search needs
-
-enum-told : tie.Need-enum-told
-enum-told c = search needs
-
-sub-result : tie.Need-sub-result
-sub-result c = search needs
-
-part-result-start : tie.Need-part-result-start
-part-result-start c = search needs
-
-part-result-end : tie.Need-part-result-end
-part-result-end c = search needs
-
 returns : tie.Need-returns
 returns c = no-section _ _ (c .before .before .before .both .ensures) (c .before .enum-told .given .1)
 
@@ -58,12 +40,12 @@ pub leaner-spec : {M : Type 1} → statement M
 leaner-spec =
     tie.close
     (tie.spec
-    both-requires
-    enum-known-pair
-    enum-told
-    sub-result
-    part-result-start
-    part-result-end
+    (λ c κs. search needs)
+    (λ c. search needs)
+    (λ c. search needs)
+    (λ c. search needs)
+    (λ c. search needs)
+    (λ c. search needs)
     returns
     second-leaner-requires
     section-requires

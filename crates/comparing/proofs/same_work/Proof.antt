@@ -7,18 +7,6 @@ use borrow.Author.Needs.{needs}
 use Rattle.comparing.proofs.same_work.Statement.{statement}
 use Rattle.comparing.proofs.same_work.Tie as tie
 
-both-requires : tie.Need-both-requires
-both-requires c κs = search needs
-
-enum-known-pair : tie.Need-enum-known-pair
-enum-known-pair c = search needs
-
-enum-told : tie.Need-enum-told
-enum-told c = search needs
-
-not-work-requires : tie.Need-not-work-requires
-not-work-requires c κs = search needs
-
 returns : tie.Need-returns
 returns c = no-work _ _ (c .before .before .before .both .ensures) (c .before .enum-told .given .1) (c .not-work .result) (c .not-work .ensures)
 
@@ -39,10 +27,10 @@ pub same-work-spec : {M : Type 1} → statement M
 same-work-spec =
     tie.close
     (tie.spec
-    both-requires
-    enum-known-pair
-    enum-told
-    not-work-requires
+    (λ c κs. search needs)
+    (λ c. search needs)
+    (λ c. search needs)
+    (λ c κs. search needs)
     returns
     same-restated-requires
     returns-2

@@ -7,18 +7,6 @@ use borrow.Author.Needs.{needs}
 use Rattle.comparing.proofs.winner.Statement.{statement}
 use Rattle.comparing.proofs.winner.Tie as tie
 
-both-requires : tie.Need-both-requires
-both-requires c κs = search needs
-
-enum-known-pair : tie.Need-enum-known-pair
-enum-known-pair c = search needs
-
-enum-told : tie.Need-enum-told
-enum-told c = search needs
-
-not-lean-requires : tie.Need-not-lean-requires
-not-lean-requires c κs = search needs
-
 returns : tie.Need-returns
 returns c = no-winner _ _ (c .before .before .before .both .ensures) (c .before .enum-told .given .1) (c .not-lean .result) (c .not-lean .ensures)
 
@@ -39,10 +27,10 @@ pub winner-spec : {M : Type 1} → statement M
 winner-spec =
     tie.close
     (tie.spec
-    both-requires
-    enum-known-pair
-    enum-told
-    not-lean-requires
+    (λ c κs. search needs)
+    (λ c. search needs)
+    (λ c. search needs)
+    (λ c κs. search needs)
     returns
     second-leaner-requires
     returns-2

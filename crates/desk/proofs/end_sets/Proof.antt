@@ -5,8 +5,8 @@ use mathlib.Core.List.{List}
 use Prim.Native.Nat.{ℕ}
 use native.Mathlib.Omega.{arith}
 use borrow.Author.Needs.{needs}
-use Rattle.restating.specs.Known.{Admitted}
-use Rattle.restating.proofs.Accepting.{admitted-check}
+use Rattle.desk.specs.restating.Known.{Admitted}
+use Rattle.desk.proofs.restating.Accepting.{admitted-check}
 use Rattle.desk.proofs.EndAnswers.{ends-refused, ends-kept}
 use Rattle.desk.proofs.end_sets.Statement.{statement}
 use Rattle.desk.proofs.end_sets.Tie as tie
@@ -36,26 +36,11 @@ admitted-at : (c : tie.After-read) → Admitted (sheet-at (marked-at c)) (n-at c
 admitted-at c =
     admitted-check (sheet-at (marked-at c)) (n-at c) (m-at c) (t-at c) (s-at c) (sym (c .read .given .1) ∙ marked-at c .marked .ensures .verdict-told)
 
-slice-aggregate-marked : tie.Need-slice-aggregate-marked
-slice-aggregate-marked c = search needs
-
-marked-requires : tie.Need-marked-requires
-marked-requires c κs = search needs
-
-enum-known-read : tie.Need-enum-known-read
-enum-known-read c = search needs
-
-enum-told : tie.Need-enum-told
-enum-told c = search needs
-
 returns : tie.Need-returns
 returns c =
     let d = c .before .before .before in
     let g = c .enum-told .given in
     ends-refused (sheet-at d) (d .marked .result) (held-at d) (d .marked .ensures) _ refl (g .0 .0) (g .0 .1 .0) (g .1) refl
-
-slice-aggregate-first-sets : tie.Need-slice-aggregate-first-sets
-slice-aggregate-first-sets c = search needs
 
 first-sets-requires : tie.Need-first-sets-requires
 first-sets-requires c κs =
@@ -75,11 +60,11 @@ pub end-sets-spec : {M : Type 1} → statement M
 end-sets-spec =
     tie.close
     (tie.spec
-    slice-aggregate-marked
-    marked-requires
-    enum-known-read
-    enum-told
+    (λ c. search needs)
+    (λ c κs. search needs)
+    (λ c. search needs)
+    (λ c. search needs)
     returns
-    slice-aggregate-first-sets
+    (λ c. search needs)
     first-sets-requires
     returns-2)

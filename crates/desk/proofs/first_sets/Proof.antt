@@ -4,7 +4,7 @@ use mathlib.Core.Path.{_≡_, refl, subst}
 use Prim.Native.Nat.{ℕ, _-_, _≤_}
 use native.Mathlib.Omega.{arith}
 use borrow.Author.Needs.{needs}
-use Rattle.moves.proofs.Filling.{Filled, filled-none, filled-more}
+use Rattle.machine.proofs.moves.Filling.{Filled, filled-none, filled-more}
 use Rattle.desk.specs.Calls.{keptOf}
 use Rattle.desk.proofs.Arrays.{filled-map}
 use Rattle.desk.proofs.first_sets.Statement.{statement}
@@ -18,18 +18,6 @@ abbrev μ-loop : tie.MeasureT-loop
 
 loop-holds : tie.Need-loop-holds Inv-loop μ-loop
 loop-holds c = (omega arith, filled-none _ 16 _ refl)
-
-kept-requires : tie.Need-kept-requires Inv-loop μ-loop
-kept-requires c κs = search needs
-
-mul-sets : tie.Need-mul-sets Inv-loop μ-loop
-mul-sets c = search needs
-
-array-write-sets : tie.Need-array-write-sets Inv-loop μ-loop
-array-write-sets c = search needs
-
-add-j : tie.Need-add-j Inv-loop μ-loop
-add-j c = search needs
 
 loop-less : tie.Need-loop-less Inv-loop μ-loop
 loop-less c = omega arith
@@ -50,4 +38,4 @@ returns c =
 
 pub first-sets-spec : {M : Type 1} → statement M
 first-sets-spec =
-    tie.close (tie.spec Inv-loop μ-loop loop-holds kept-requires mul-sets array-write-sets add-j loop-less loop-again returns)
+    tie.close (tie.spec Inv-loop μ-loop loop-holds (λ c κs. search needs) (λ c. search needs) (λ c. search needs) (λ c. search needs) loop-less loop-again returns)

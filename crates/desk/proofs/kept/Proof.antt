@@ -16,12 +16,6 @@ below-kept l n j h = rw (ltb-true j n .1 h)
 above-kept : (l : List ℕ) (n j : ℕ) → n ≤ j → 0 ≡ keptOf l n j
 above-kept l n j h = rw (ltb-false j n .1 h)
 
-mul-result : tie.Need-mul-result
-mul-result c = search needs
-
-shared-slice-read-result : tie.Need-shared-slice-read-result
-shared-slice-read-result c = search needs
-
 returns : tie.Need-returns
 returns c = let a = c .before .before .args in below-kept (a .held .now) (a .n) (a .j) (c .before .if1 .taken)
 
@@ -29,4 +23,4 @@ returns-2 : tie.Need-returns-2
 returns-2 c = let a = c .before .args in above-kept (a .held .now) (a .n) (a .j) (c .if1 .left)
 
 pub kept-spec : {M : Type 1} → statement M
-kept-spec = tie.close (tie.spec mul-result shared-slice-read-result returns returns-2)
+kept-spec = tie.close (tie.spec (λ c. search needs) (λ c. search needs) returns returns-2)

@@ -6,8 +6,8 @@ use Prim.Native.Nat.{ℕ}
 use borrow.Author.Needs.{needs}
 use Rattle.reading.specs.declared.Reading.{Reading}
 use Rattle.reading.specs.Reading.{Trailed}
-use Rattle.marking.specs.Marked.{MarkedRight}
-use Rattle.marking.proofs.Marking.{trailer-stopped, done-told, faulty-told}
+use Rattle.desk.specs.marking.Marked.{MarkedRight}
+use Rattle.desk.proofs.marking.Marking.{trailer-stopped, done-told, faulty-told}
 use Rattle.desk.specs.Calls.{Judged}
 use Rattle.desk.proofs.Parts.{trailed-part, marked-part}
 use Rattle.desk.proofs.EndAnswers.{judged-refused}
@@ -49,15 +49,6 @@ held-at c = c .mark-tables .last .1 .1 .1 .1 .1 .1 .0
 marked-at : (c : tie.After-mark-tables) → MarkedRight (sheet-at (read-at c)) (c .mark-tables .result) (owners-at c) (held-at c)
 marked-at c = marked-part (sheet-at (read-at c)) (c .mark-tables .result) (owners-at c) (held-at c) (c .mark-tables .ensures)
 
-read-trailer-requires : tie.Need-read-trailer-requires
-read-trailer-requires c κs = search needs
-
-enum-known-read : tie.Need-enum-known-read
-enum-known-read c = search needs
-
-enum-told : tie.Need-enum-told
-enum-told c = search needs
-
 returns : tie.Need-returns
 returns c =
     let g = c .enum-told .given in
@@ -67,31 +58,10 @@ returns c =
     subst (λ (r : Reading). Judged b r (s .args .held .now)) (sym (g .1))
     (judged-refused b (g .0 .0) (g .0 .1 .0) _ (s .pre) (trailer-stopped b (g .0 .0) (g .0 .1 .0) (sym (g .1) ∙ d .read-trailer .ensures)))
 
-sub-mark-tables : tie.Need-sub-mark-tables
-sub-mark-tables c = search needs
-
-part-mark-tables-start : tie.Need-part-mark-tables-start
-part-mark-tables-start c = search needs
-
-part-mark-tables-end : tie.Need-part-mark-tables-end
-part-mark-tables-end c = search needs
-
-slice-aggregate-mark-tables : tie.Need-slice-aggregate-mark-tables
-slice-aggregate-mark-tables c = search needs
-
 mark-tables-requires : tie.Need-mark-tables-requires
 mark-tables-requires c κs =
     let r = c .before .before .before .before in
     (trailed-part (sheet-at r) (n-at r) (m-at r) (t-at r) (s-at r) (trailed-at r), refl, start-at (r .before .before) .pre)
-
-enum-known-ran : tie.Need-enum-known-ran
-enum-known-ran c = search needs
-
-enum-told-2 : tie.Need-enum-told-2
-enum-told-2 c = search needs
-
-same-length : tie.Need-same-length
-same-length c = search needs
 
 returns-2 : tie.Need-returns-2
 returns-2 c =
@@ -106,9 +76,6 @@ returns-2 c =
       ends = h .ends;
     }
 
-same-length-2 : tie.Need-same-length-2
-same-length-2 c = search needs
-
 returns-3 : tie.Need-returns-3
 returns-3 c =
     let d = c .before .before .before .before .before .before in
@@ -121,18 +88,18 @@ pub marked-spec : {M : Type 1} → statement M
 marked-spec =
     tie.close
     (tie.spec
-    read-trailer-requires
-    enum-known-read
-    enum-told
+    (λ c κs. search needs)
+    (λ c. search needs)
+    (λ c. search needs)
     returns
-    sub-mark-tables
-    part-mark-tables-start
-    part-mark-tables-end
-    slice-aggregate-mark-tables
+    (λ c. search needs)
+    (λ c. search needs)
+    (λ c. search needs)
+    (λ c. search needs)
     mark-tables-requires
-    enum-known-ran
-    enum-told-2
-    same-length
+    (λ c. search needs)
+    (λ c. search needs)
+    (λ c. search needs)
     returns-2
-    same-length-2
+    (λ c. search needs)
     returns-3)

@@ -6,17 +6,8 @@ use Rattle.desk.specs.Calls.{notProcess}
 use Rattle.desk.proofs.not_process.Statement.{statement}
 use Rattle.desk.proofs.not_process.Tie as tie
 
-enum-known-read : tie.Need-enum-known-read
-enum-known-read c = search needs
-
-enum-told : tie.Need-enum-told
-enum-told c = search needs
-
-returns : tie.Need-returns
-returns c = search needs
-
 returns-2 : tie.Need-returns-2
 returns-2 c = ap notProcess (sym (c .before .read .given .1))
 
 pub not-process-spec : {M : Type 1} → statement M
-not-process-spec = tie.close (tie.spec enum-known-read enum-told returns returns-2)
+not-process-spec = tie.close (tie.spec (λ c. search needs) (λ c. search needs) (λ c. search needs) returns-2)

@@ -6,9 +6,9 @@ use mathlib.Core.Option.{none, some as just}
 use Prim.Native.Nat.{ℕ}
 use native.Mathlib.Omega.{arith}
 use borrow.Author.Needs.{needs}
-use Rattle.offences.specs.Offences.{offenceOf}
-use Rattle.restating.specs.Known.{Admitted}
-use Rattle.restating.proofs.Accepting.{admitted-check, records-long, known-section}
+use Rattle.dependence.specs.offences.Offences.{offenceOf}
+use Rattle.desk.specs.restating.Known.{Admitted}
+use Rattle.desk.proofs.restating.Accepting.{admitted-check, records-long, known-section}
 use Rattle.desk.proofs.ProcessAnswers.{process-refused, process-given}
 use Rattle.desk.proofs.process_check.Statement.{statement}
 use Rattle.desk.proofs.process_check.Tie as tie
@@ -31,18 +31,6 @@ s-at c = c .read .given .0 .1 .1 .1 .0
 admitted-at : (c : tie.After-read) → Admitted (sheet-at c) (n-at c) (m-at c) (t-at c) (s-at c)
 admitted-at c = admitted-check (sheet-at c) (n-at c) (m-at c) (t-at c) (s-at c) (sym (c .read .given .1) ∙ c .before .before .check .ensures)
 
-check-requires : tie.Need-check-requires
-check-requires c κs = search needs
-
-enum-known-read : tie.Need-enum-known-read
-enum-known-read c = search needs
-
-enum-told : tie.Need-enum-told
-enum-told c = search needs
-
-not-process-requires : tie.Need-not-process-requires
-not-process-requires c κs = search needs
-
 returns : tie.Need-returns
 returns c =
     let g = c .before .enum-told .given in
@@ -53,17 +41,8 @@ returns c =
 sub-end : tie.Need-sub-end
 sub-end c = let r = admitted-at (c .before) in omega arith
 
-sub-alphabets : tie.Need-sub-alphabets
-sub-alphabets c = search needs
-
-part-alphabets-start : tie.Need-part-alphabets-start
-part-alphabets-start c = search needs
-
 part-alphabets-end : tie.Need-part-alphabets-end
 part-alphabets-end c = let r = admitted-at (c .before) in omega arith
-
-slice-aggregate-alphabets : tie.Need-slice-aggregate-alphabets
-slice-aggregate-alphabets c = search needs
 
 alphabets-requires : tie.Need-alphabets-requires
 alphabets-requires c κs =
@@ -84,24 +63,12 @@ sub-first-offence c = let r = admitted-at (read-at (c .before)) in omega arith
 part-first-offence-start : tie.Need-part-first-offence-start
 part-first-offence-start c = let r = admitted-at (read-at (c .before)) in omega arith
 
-part-first-offence-end : tie.Need-part-first-offence-end
-part-first-offence-end c = search needs
-
-slice-aggregate-first-offence : tie.Need-slice-aggregate-first-offence
-slice-aggregate-first-offence c = search needs
-
 first-offence-requires : tie.Need-first-offence-requires
 first-offence-requires c κs =
     let read = c .before .before .before in
     let k = read-at read in
     let r = admitted-at k in
     ((let size = read .alphabets2 .ensures .size in omega arith), known-section (sheet-at k) (n-at k) (m-at k) (t-at k) (s-at k) r (alphabets-at read) (read .alphabets2 .ensures))
-
-enum-known-found : tie.Need-enum-known-found
-enum-known-found c = search needs
-
-enum-told-2 : tie.Need-enum-told-2
-enum-told-2 c = search needs
 
 returns-2 : tie.Need-returns-2
 returns-2 c =
@@ -124,23 +91,23 @@ pub process-check-spec : {M : Type 1} → statement M
 process-check-spec =
     tie.close
     (tie.spec
-    check-requires
-    enum-known-read
-    enum-told
-    not-process-requires
+    (λ c κs. search needs)
+    (λ c. search needs)
+    (λ c. search needs)
+    (λ c κs. search needs)
     returns
     sub-end
-    sub-alphabets
-    part-alphabets-start
+    (λ c. search needs)
+    (λ c. search needs)
     part-alphabets-end
-    slice-aggregate-alphabets
+    (λ c. search needs)
     alphabets-requires
     sub-first-offence
     part-first-offence-start
-    part-first-offence-end
-    slice-aggregate-first-offence
+    (λ c. search needs)
+    (λ c. search needs)
     first-offence-requires
-    enum-known-found
-    enum-told-2
+    (λ c. search needs)
+    (λ c. search needs)
     returns-2
     returns-3)

@@ -8,7 +8,7 @@ use native.Mathlib.Omega.{arith}
 use borrow.Author.Needs.{needs}
 use lib.ListN.{length}
 use Rattle.sheet.specs.Numbers.{parts}
-use Rattle.transitions.proofs.Parts.{parts-first, parts-none}
+use Rattle.reading.proofs.transitions.Parts.{parts-first, parts-none}
 use Rattle.reading.proofs.Steps.{counted, actionsFrom, actions-more}
 use Rattle.reading.proofs.actions_in.Statement.{statement}
 use Rattle.reading.proofs.actions_in.Tie as tie
@@ -24,24 +24,6 @@ loop-holds : tie.Need-loop-holds Inv-loop μ-loop
 loop-holds c =
     let b = c .before .args .section .now in
     (omega arith, omega arith, zero-add (actionsFrom (length b / 8) 0 b) ∙ ap counted (parts-first 8 (length b / 8) b))
-
-step-at-requires : tie.Need-step-at-requires Inv-loop μ-loop
-step-at-requires c κs = search needs
-
-count-requires : tie.Need-count-requires Inv-loop μ-loop
-count-requires c κs = search needs
-
-cast-sum : tie.Need-cast-sum Inv-loop μ-loop
-cast-sum c = search needs
-
-add-sum : tie.Need-add-sum Inv-loop μ-loop
-add-sum c = search needs
-
-add-k : tie.Need-add-k Inv-loop μ-loop
-add-k c = search needs
-
-loop-less : tie.Need-loop-less Inv-loop μ-loop
-loop-less c = search needs
 
 loop-again : tie.Need-loop-again Inv-loop μ-loop
 loop-again c =
@@ -67,11 +49,11 @@ actions-in-spec =
     Inv-loop
     μ-loop
     loop-holds
-    step-at-requires
-    count-requires
-    cast-sum
-    add-sum
-    add-k
-    loop-less
+    (λ c κs. search needs)
+    (λ c κs. search needs)
+    (λ c. search needs)
+    (λ c. search needs)
+    (λ c. search needs)
+    (λ c. search needs)
     loop-again
     returns)

@@ -35,24 +35,6 @@ abbrev μ-loop : tie.MeasureT-loop
 loop-holds : tie.Need-loop-holds Inv-loop μ-loop
 loop-holds c = (omega arith, omega arith, λ k b. absurd (omega arith))
 
-mul-number8 : tie.Need-mul-number8 Inv-loop μ-loop
-mul-number8 c = search needs
-
-add-number8 : tie.Need-add-number8 Inv-loop μ-loop
-add-number8 c = search needs
-
-number8-requires : tie.Need-number8-requires Inv-loop μ-loop
-number8-requires c κs = search needs
-
-mul-found : tie.Need-mul-found Inv-loop μ-loop
-mul-found c = search needs
-
-slice-write-found : tie.Need-slice-write-found Inv-loop μ-loop
-slice-write-found c = search needs
-
-add-j : tie.Need-add-j Inv-loop μ-loop
-add-j c = search needs
-
 loop-less : tie.Need-loop-less Inv-loop μ-loop
 loop-less c = omega arith
 
@@ -66,9 +48,6 @@ loop-again c =
       one-more (alphabetOf b) (l .found) (l .j) x (omega arith) (alphabet-field b (l .j) x (c .number8 .ensures)) (l .inv .2),
     )
 
-same-length : tie.Need-same-length Inv-loop μ-loop
-same-length c = search needs
-
 returns : tie.Need-returns Inv-loop μ-loop
 returns c =
     let l = c .before .loop in
@@ -81,13 +60,13 @@ alphabets-spec =
     Inv-loop
     μ-loop
     loop-holds
-    mul-number8
-    add-number8
-    number8-requires
-    mul-found
-    slice-write-found
-    add-j
+    (λ c. search needs)
+    (λ c. search needs)
+    (λ c κs. search needs)
+    (λ c. search needs)
+    (λ c. search needs)
+    (λ c. search needs)
     loop-less
     loop-again
-    same-length
+    (λ c. search needs)
     returns)

@@ -11,7 +11,7 @@ use borrow.Author.Needs.{needs}
 use Rattle.systems.specs.Checking.{flat}
 use Rattle.sheet.specs.Layout.{steps}
 use Rattle.sheet.specs.Refusals.{tooManyActions}
-use Rattle.trailer.specs.Numbered.{numberIf}
+use Rattle.reading.specs.trailer.Numbered.{numberIf}
 use Rattle.reading.specs.Tests.{tablesRefusal}
 use Rattle.reading.proofs.Sections.{steps-part}
 use Rattle.reading.proofs.Passing.{Read, trailer-read, read-sectioned, records-long, steps-short, read-alphabets, numberOr, number-or, refusal-number, count-refused, count-passed}
@@ -26,12 +26,6 @@ read-at c = trailer-read (sheet-at c) (c .args .n) (c .args .m) (c .args .t) (c 
 
 sub-end : tie.Need-sub-end
 sub-end c = let r = read-at (c .before .before) in omega arith
-
-sub-tables-refused : tie.Need-sub-tables-refused
-sub-tables-refused c = search needs
-
-part-tables-refused-start : tie.Need-part-tables-refused-start
-part-tables-refused-start c = search needs
 
 part-tables-refused-end : tie.Need-part-tables-refused-end
 part-tables-refused-end c = let r = read-at (c .before .before) in omega arith
@@ -67,9 +61,6 @@ refusal-at c =
     refusal-number (sheet-at s) (s .args .n) (s .args .m) (s .args .t) (s .args .s) (read-at s) (c .tables-refused .result)
     (c .tables-refused .ensures .0)
 
-same-length : tie.Need-same-length
-same-length c = search needs
-
 returns : tie.Need-returns
 returns c =
     let tested = c .before .before .before in (
@@ -87,9 +78,6 @@ sub-actions-in c = let r = read-at (start-at (tested-at c)) in omega arith
 
 part-actions-in-start : tie.Need-part-actions-in-start
 part-actions-in-start c = let r = read-at (start-at (tested-at c)) in omega arith
-
-part-actions-in-end : tie.Need-part-actions-in-end
-part-actions-in-end c = search needs
 
 actions-in-requires : tie.Need-actions-in-requires
 actions-in-requires c κs =
@@ -115,16 +103,10 @@ counted c w e =
     ∙ ap (λ (x : ℕ). numberOr x (numberIf (tooManyActions (sheet-at (counted-at c))) 9 0)) (passed .if1 .left)
     ∙ ap (λ (v : Bool). numberIf v 9 0) e
 
-same-length-2 : tie.Need-same-length-2
-same-length-2 c = search needs
-
 returns-2 : tie.Need-returns-2
 returns-2 c =
     let k = c .before in
     (sym (counted k _ (count-refused (sheet-at (counted-at k)) (k .actions-in .result) (count-at k) (c .if2 .taken))), λ z. absurd (omega arith))
-
-same-length-3 : tie.Need-same-length-3
-same-length-3 c = search needs
 
 returns-3 : tie.Need-returns-3
 returns-3 c =
@@ -142,20 +124,20 @@ read-tables-spec =
     tie.close
     (tie.spec
     sub-end
-    sub-tables-refused
-    part-tables-refused-start
+    (λ c. search needs)
+    (λ c. search needs)
     part-tables-refused-end
     sub-tables-refused-2
     part-tables-refused-start-2
     part-tables-refused-end-2
     tables-refused-requires
-    same-length
+    (λ c. search needs)
     returns
     sub-actions-in
     part-actions-in-start
-    part-actions-in-end
+    (λ c. search needs)
     actions-in-requires
-    same-length-2
+    (λ c. search needs)
     returns-2
-    same-length-3
+    (λ c. search needs)
     returns-3)

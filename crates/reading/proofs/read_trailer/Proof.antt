@@ -4,15 +4,12 @@ use mathlib.Core.Path.{sym, ap, _∙_}
 use Prim.Native.Nat.{ℕ}
 use native.Mathlib.Omega.{arith}
 use Rattle.sheet.specs.Verdict.{accepted}
-use Rattle.trailer.proofs.Trailer.{passed-long}
+use Rattle.reading.proofs.trailer.Trailer.{passed-long}
 use Rattle.reading.specs.Reading.{readingOf}
 use Rattle.reading.proofs.Passing.{refusedOr, refused-or, trailer-number}
 use borrow.Author.Needs.{needs}
 use Rattle.reading.proofs.read_trailer.Statement.{statement}
 use Rattle.reading.proofs.read_trailer.Tie as tie
-
-trailer-refused-requires : tie.Need-trailer-refused-requires
-trailer-refused-requires c κs = search needs
 
 returns : tie.Need-returns
 returns c =
@@ -35,4 +32,4 @@ returns-2 c =
     ∙ ap (readingOf b) (sym (trailer-number b accepted ∙ ap (λ (x : ℕ). refusedOr x accepted) (sym (r .ensures) ∙ c .before .if1 .left)))
 
 pub read-trailer-spec : {M : Type 1} → statement M
-read-trailer-spec = tie.close (tie.spec trailer-refused-requires returns sizes-requires returns-2)
+read-trailer-spec = tie.close (tie.spec (λ c κs. search needs) returns sizes-requires returns-2)

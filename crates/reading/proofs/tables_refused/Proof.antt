@@ -14,9 +14,9 @@ use Rattle.sheet.specs.Numbers.{parts}
 use Rattle.sheet.specs.Layout.{alphabetOf}
 use Rattle.sheet.specs.Refusals.{recordWrong, transitionWrong, risingBytes}
 use Rattle.sheet.specs.Sections.{sectionTables, Alphabets}
-use Rattle.trailer.specs.Numbered.{numberIf}
-use Rattle.records.specs.Alphabets.{unusedIn}
-use Rattle.transitions.specs.Fitting.{misfit}
+use Rattle.reading.specs.trailer.Numbered.{numberIf}
+use Rattle.reading.specs.records.Alphabets.{unusedIn}
+use Rattle.reading.specs.transitions.Fitting.{misfit}
 use Rattle.reading.specs.Tests.{tablesNumber}
 use Rattle.reading.proofs.Sections.{some-same, same-below, wrong-same}
 use borrow.Author.Needs.{needs}
@@ -80,9 +80,6 @@ told-same T l later x h e =
     (some-same (misfit (T .states) l (T .components)) (transitionWrong T) (T .transitions)
     (λ t k. misfit-listed T l t ∙ wrong-same (listed T l) T t refl (λ j b. (refl, h .each j b))))
 
-records-wrong-requires : tie.Need-records-wrong-requires
-records-wrong-requires c κs = search needs
-
 returns : tie.Need-returns
 returns c = (
   decided (c .before .before .before .before .before) true _ _ (sym (c .if1 .taken) ∙ c .before .records-wrong .ensures) refl refl,
@@ -91,18 +88,6 @@ returns c = (
 
 records-right : (c : tie.Else1) → false ≡ bad-record (c .before .before .before .before .before)
 records-right c = sym (c .if1 .left) ∙ c .before .records-wrong .ensures
-
-alphabets-requires : tie.Need-alphabets-requires
-alphabets-requires c κs = search needs
-
-cast-action-unused : tie.Need-cast-action-unused
-cast-action-unused c = search needs
-
-action-unused-requires : tie.Need-action-unused-requires
-action-unused-requires c κs = search needs
-
-same-length : tie.Need-same-length
-same-length c = search needs
 
 -- the array as the call left it
 abbrev found : tie.After-alphabets → List ℕ
@@ -127,12 +112,6 @@ returns-2 c =
       λ z. absurd (omega arith),
     )
 
-transitions-refused-requires : tie.Need-transitions-refused-requires
-transitions-refused-requires c κs = search needs
-
-same-length-2 : tie.Need-same-length-2
-same-length-2 c = search needs
-
 returns-3 : tie.Need-returns-3
 returns-3 c =
     let used = c .before .before in
@@ -147,13 +126,13 @@ pub tables-refused-spec : {M : Type 1} → statement M
 tables-refused-spec =
     tie.close
     (tie.spec
-    records-wrong-requires
+    (λ c κs. search needs)
     returns
-    alphabets-requires
-    cast-action-unused
-    action-unused-requires
-    same-length
+    (λ c κs. search needs)
+    (λ c. search needs)
+    (λ c κs. search needs)
+    (λ c. search needs)
     returns-2
-    transitions-refused-requires
-    same-length-2
+    (λ c κs. search needs)
+    (λ c. search needs)
     returns-3)

@@ -11,11 +11,8 @@ use borrow.Author.Needs.{needs}
 use Rattle.sets.proofs.with.Statement.{statement}
 use Rattle.sets.proofs.with.Tie as tie
 
-shl-result : tie.Need-shl-result
-shl-result c = search needs
-
 returns : tie.Need-returns
 returns c = ap (λ (b : ℕ). bitOr b (c .args .x)) (shl-exact 1 (c .args .i) 64 (lit< tt) (omega arith) ∙ one-mul _)
 
 pub with-spec : {M : Type 1} → statement M
-with-spec = tie.close (tie.spec shl-result returns)
+with-spec = tie.close (tie.spec (λ c. search needs) returns)

@@ -6,11 +6,8 @@ use Rattle.sets.proofs.LowestBit.{clear-lt}
 use Rattle.sets.proofs.without_lowest.Statement.{statement}
 use Rattle.sets.proofs.without_lowest.Tie as tie
 
-sub-result : tie.Need-sub-result
-sub-result c = search needs
-
 returns : tie.Need-returns
 returns c = (refl, clear-lt (c .args .x) (c .pre))
 
 pub without-lowest-spec : {M : Type 1} → statement M
-without-lowest-spec = tie.close (tie.spec sub-result returns)
+without-lowest-spec = tie.close (tie.spec (λ c. search needs) returns)

@@ -10,26 +10,11 @@ use borrow.Author.Needs.{needs}
 use Rattle.writing.proofs.write_counts.Statement.{statement}
 use Rattle.writing.proofs.write_counts.Tie as tie
 
-slice-write-out : tie.Need-slice-write-out
-slice-write-out c = search needs
-
 slice-write-out-2 : tie.Need-slice-write-out-2
 slice-write-out-2 c = let fits : 4 ≤ length (c .args .out .now) = c .pre in simp length-set (omega arith)
 
-array-read-out : tie.Need-array-read-out
-array-read-out c = search needs
-
 slice-write-out-3 : tie.Need-slice-write-out-3
 slice-write-out-3 c = let fits : 4 ≤ length (c .args .out .now) = c .pre in simp length-set (omega arith)
-
-array-read-out-2 : tie.Need-array-read-out-2
-array-read-out-2 c = search needs
-
-slice-write-out-4 : tie.Need-slice-write-out-4
-slice-write-out-4 c = search needs
-
-same-length : tie.Need-same-length
-same-length c = search needs
 
 returns : tie.Need-returns
 returns c =
@@ -46,11 +31,11 @@ pub write-counts-spec : {M : Type 1} → statement M
 write-counts-spec =
     tie.close
     (tie.spec
-    slice-write-out
+    (λ c. search needs)
     slice-write-out-2
-    array-read-out
+    (λ c. search needs)
     slice-write-out-3
-    array-read-out-2
-    slice-write-out-4
-    same-length
+    (λ c. search needs)
+    (λ c. search needs)
+    (λ c. search needs)
     returns)

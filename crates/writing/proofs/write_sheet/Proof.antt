@@ -12,24 +12,6 @@ use borrow.Author.Needs.{needs}
 use Rattle.writing.proofs.write_sheet.Statement.{statement}
 use Rattle.writing.proofs.write_sheet.Tie as tie
 
-copy-requires : tie.Need-copy-requires
-copy-requires c κs = search needs
-
-sub-write-steps : tie.Need-sub-write-steps
-sub-write-steps c = search needs
-
-part-write-steps-start : tie.Need-part-write-steps-start
-part-write-steps-start c = search needs
-
-part-write-steps-end : tie.Need-part-write-steps-end
-part-write-steps-end c = search needs
-
-write-steps-requires : tie.Need-write-steps-requires
-write-steps-requires c κs = search needs
-
-same-length : tie.Need-same-length
-same-length c = search needs
-
 returns : tie.Need-returns
 unfolding sheetOf
 returns c =
@@ -45,10 +27,10 @@ pub write-sheet-spec : {M : Type 1} → statement M
 write-sheet-spec =
     tie.close
     (tie.spec
-    copy-requires
-    sub-write-steps
-    part-write-steps-start
-    part-write-steps-end
-    write-steps-requires
-    same-length
+    (λ c κs. search needs)
+    (λ c. search needs)
+    (λ c. search needs)
+    (λ c. search needs)
+    (λ c κs. search needs)
+    (λ c. search needs)
     returns)

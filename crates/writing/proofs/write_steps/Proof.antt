@@ -22,33 +22,6 @@ abbrev μ-loop : tie.MeasureT-loop
 loop-holds : tie.Need-loop-holds Inv-loop μ-loop
 loop-holds c = (omega arith, refl, refl)
 
-mul-put8 : tie.Need-mul-put8 Inv-loop μ-loop
-mul-put8 c = search needs
-
-shared-slice-read-put8 : tie.Need-shared-slice-read-put8 Inv-loop μ-loop
-shared-slice-read-put8 c = search needs
-
-mul-put8-2 : tie.Need-mul-put8-2 Inv-loop μ-loop
-mul-put8-2 c = search needs
-
-sub-put8 : tie.Need-sub-put8 Inv-loop μ-loop
-sub-put8 c = search needs
-
-part-put8-start : tie.Need-part-put8-start Inv-loop μ-loop
-part-put8-start c = search needs
-
-part-put8-end : tie.Need-part-put8-end Inv-loop μ-loop
-part-put8-end c = search needs
-
-put8-requires : tie.Need-put8-requires Inv-loop μ-loop
-put8-requires c κs = search needs
-
-add-k : tie.Need-add-k Inv-loop μ-loop
-add-k c = search needs
-
-loop-less : tie.Need-loop-less Inv-loop μ-loop
-loop-less c = search needs
-
 loop-again : tie.Need-loop-again Inv-loop μ-loop
 loop-again c =
     let l = c .before .before .before .before .before .before .loop in
@@ -61,24 +34,6 @@ loop-again c =
           (sym (steps-length (l .k) packed (omega arith))) refl (c .before .before .put8 .ensures)
           ∙ ap (λ (p : List ℕ). over p (a .out .now)) (steps-next (l .k) packed inside),
     )
-
-mul-write-trailer : tie.Need-mul-write-trailer Inv-loop μ-loop
-mul-write-trailer c = search needs
-
-sub-write-trailer : tie.Need-sub-write-trailer Inv-loop μ-loop
-sub-write-trailer c = search needs
-
-part-write-trailer-start : tie.Need-part-write-trailer-start Inv-loop μ-loop
-part-write-trailer-start c = search needs
-
-part-write-trailer-end : tie.Need-part-write-trailer-end Inv-loop μ-loop
-part-write-trailer-end c = search needs
-
-write-trailer-requires : tie.Need-write-trailer-requires Inv-loop μ-loop
-write-trailer-requires c κs = search needs
-
-same-length : tie.Need-same-length Inv-loop μ-loop
-same-length c = search needs
 
 returns : tie.Need-returns Inv-loop μ-loop
 returns c =
@@ -97,20 +52,20 @@ write-steps-spec =
     Inv-loop
     μ-loop
     loop-holds
-    mul-put8
-    shared-slice-read-put8
-    mul-put8-2
-    sub-put8
-    part-put8-start
-    part-put8-end
-    put8-requires
-    add-k
-    loop-less
+    (λ c. search needs)
+    (λ c. search needs)
+    (λ c. search needs)
+    (λ c. search needs)
+    (λ c. search needs)
+    (λ c. search needs)
+    (λ c κs. search needs)
+    (λ c. search needs)
+    (λ c. search needs)
     loop-again
-    mul-write-trailer
-    sub-write-trailer
-    part-write-trailer-start
-    part-write-trailer-end
-    write-trailer-requires
-    same-length
+    (λ c. search needs)
+    (λ c. search needs)
+    (λ c. search needs)
+    (λ c. search needs)
+    (λ c κs. search needs)
+    (λ c. search needs)
     returns)

@@ -1,0 +1,68 @@
+-- 14: whether the tables of two accepted sheets differ, from what was read of each.
+-- Assumes nothing.
+use mathlib.Core.Path.{_≡_, refl, sym, ap, _∙_}
+use mathlib.Core.Bool.{Bool, true, false, not}
+use mathlib.Core.List.{List}
+use Prim.Native.Nat.{ℕ}
+use native.Mathlib.Omega.{arith}
+use lib.ListN.{length, take}
+use lib.Seq.{length-take-le}
+use Rattle.sets.proofs.Bools.{clash}
+use Rattle.sheet.specs.Layout.{stepsAt, front}
+use Rattle.sheet.specs.Refusals.{sameBytes}
+use Rattle.sheet.proofs.Limits.{same-bytes}
+use Rattle.sheet.proofs.RoundTrip.{sections-length}
+use Rattle.answers.specs.Related.{SameTables}
+use Rattle.answers.specs.Pairs.{tablesDiffer}
+use Rattle.answers.proofs.Restated.{accepted-limits}
+use Rattle.answers.proofs.PairAnswers.{differ-false}
+use Rattle.comparing.specs.parts.Sizes.{Sizes}
+
+front-taken : (b : List ℕ) (s : ℕ) → s ≡ stepsAt b → take s b ≡ front b
+unfolding front
+front-taken b s e = ap (λ (x : ℕ). take x b) e
+
+pub front-size : (b : List ℕ) (s : ℕ) {n m s2 : ℕ} → Sizes b n m s2 → s ≡ s2 → s ≡ length (take s b)
+front-size b s p e =
+    let at = p .s-read in
+    let whole = sections-length b (accepted-limits b (p .sheet-accepted)) in
+    sym (length-take-le s b (omega arith))
+
+module _ (b c : List ℕ) where
+  differ-true : ¬ SameTables b c → true ≡ tablesDiffer b c
+  differ-true n = go (tablesDiffer b c) refl
+    where
+      go : (t : Bool) → tablesDiffer b c ≡ t → true ≡ t
+      go true e = refl
+      go false e = absurd (n (differ-false b c .0 e))
+
+  module _ (n m s n2 m2 s2 : ℕ) (p : Sizes b n m s) (q : Sizes c n2 m2 s2) where
+    pub differ-n : ¬ (n ≡ n2) → true ≡ tablesDiffer b c
+    differ-n h = differ-true (λ t. h (p .n-read ∙ t .same-components ∙ sym (q .n-read)))
+
+    pub differ-m : ¬ (m ≡ m2) → true ≡ tablesDiffer b c
+    differ-m h = differ-true (λ t. h (p .m-read ∙ t .same-actions ∙ sym (q .m-read)))
+
+    pub differ-s : ¬ (s ≡ s2) → true ≡ tablesDiffer b c
+    differ-s h = differ-true (λ t. h (p .s-read ∙ t .same-steps-at ∙ sym (q .s-read)))
+
+    -- with the numbers the same, the bytes before S decide
+    pub differ-front : n ≡ n2 → m ≡ m2 → s ≡ s2 → not (sameBytes (take s b) (take s c)) ≡ tablesDiffer b c
+    differ-front hn hm hs = go (sameBytes (take s b) (take s c)) refl
+      where
+        one : take s b ≡ front b
+        one = front-taken b s (p .s-read)
+
+        two : take s c ≡ front c
+        two = front-taken c s (hs ∙ q .s-read)
+
+        go : (t : Bool) → sameBytes (take s b) (take s c) ≡ t → not t ≡ tablesDiffer b c
+        go true e =
+            sym (differ-false b c .1
+            (record {
+              same-front = sym one ∙ same-bytes (take s b) (take s c) .0 e ∙ two;
+              same-steps-at = sym (p .s-read) ∙ hs ∙ q .s-read;
+              same-components = sym (p .n-read) ∙ hn ∙ q .n-read;
+              same-actions = sym (p .m-read) ∙ hm ∙ q .m-read;
+            }))
+        go false e = differ-true (λ t. clash (same-bytes (take s b) (take s c) .1 (one ∙ t .same-front ∙ sym two)) e)

@@ -1,0 +1,3 @@
+pub mod owners
+pub mod clashing
+pub mod offences

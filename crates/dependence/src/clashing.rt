@@ -1,0 +1,32 @@
+// Refusal 11: actions of one step that are not independent.
+ghost use mathlib.Core.Path.{_≡_};
+ghost use mathlib.Core.Logic.{_≢_};
+ghost use Prim.Native.Nat.{_≤_};
+ghost use lib.ListN.{length};
+ghost use Rattle.dependence.specs.clashing.Shared.{sharesTwo};
+
+// Whether two actions of the step, which is not empty, lie in one of the n alphabets.
+pub fn clashes(alphabets: &[u64], n: usize, step: u64) -> bool
+    requires { ⌜ (n ≤ length (now alphabets)) × (step ≢ 0) ⌝ }
+    ensures { λ r. ⌜ r ≡ sharesTwo (now (alphabets .entry)) n step ⌝ }
+{
+    if sets::without_lowest(step) == 0 {
+        return false;
+    }
+    let mut found = false;
+    let mut j = 0;
+    'components: while j < n {
+        let mut left = step & alphabets[j];
+        let mut seen = false;
+        while left != 0 {
+            if seen {
+                found = true;
+                break 'components;
+            }
+            seen = true;
+            left = sets::without_lowest(left);
+        }
+        j += 1;
+    }
+    found
+}

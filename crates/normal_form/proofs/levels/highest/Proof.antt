@@ -1,0 +1,59 @@
+-- `levels::highest` meets its contract. The loop's invariant: the larger of `at` and the entries of the components that are left is
+-- what is to be given back. The measure is the set that is left, which falls. Assumes nothing.
+use mathlib.Core.Path.{_≡_, refl, sym, ap, _∙_}
+use mathlib.Core.List.{_∷_}
+use Prim.Native.Nat.{ℕ, _^_, _<_, max}
+use native.Mathlib.Omega.{arith}
+use borrow.Author.Needs.{needs}
+use Rattle.sets.specs.Bits.{members}
+use Rattle.normal_form.specs.levels.Levels.{largest}
+use Rattle.normal_form.proofs.levels.Walking.{first-below, largest-more, largest-none}
+use Rattle.normal_form.proofs.levels.highest.Statement.{statement}
+use Rattle.normal_form.proofs.levels.highest.Tie as tie
+
+abbrev Inv-loop : tie.InvT-loop
+Inv-loop mine from last at₀ left₀ at left =
+    (left < 2 ^ 16) × (max at (largest last (members left)) ≡ max from (largest last (members mine)))
+
+abbrev μ-loop : tie.MeasureT-loop
+μ-loop mine from last at₀ left₀ at left = left
+
+loop-holds : tie.Need-loop-holds Inv-loop μ-loop
+loop-holds c = (c .before .pre .0, refl)
+
+shared-slice-read-larger : tie.Need-shared-slice-read-larger Inv-loop μ-loop
+shared-slice-read-larger c =
+    let turn = c .before .before .before .loop in
+    let size = c .before .before .before .before .before .pre .1 in
+    omega (arith, first-below (turn .left) (c .before .lowest .result) _ (turn .inv .0) (c .before .lowest .ensures .1))
+
+loop-again : tie.Need-loop-again Inv-loop μ-loop
+loop-again c =
+    let start = c .before .before .before .before .before .before .before .args in
+    let turn = c .before .before .before .before .before .loop in
+    let first = c .before .before .before .lowest in (
+      omega arith,
+      largest-more (start .last .now) (turn .left) (first .result) (c .without-lowest .result) (turn .at)
+          (c .before .larger .result) _ (first .ensures .1 ∙ ap (λ (x : ℕ). first .result ∷ members x) (sym (c .without-lowest .ensures .0)))
+          (c .before .larger .ensures) (turn .inv .1),
+    )
+
+returns : tie.Need-returns Inv-loop μ-loop
+returns c = largest-none _ _ _ _ (c .loop-test .left) (c .before .loop .inv .1)
+
+pub highest-spec : {M : Type 1} → statement M
+highest-spec =
+    tie.close
+    (tie.spec
+    Inv-loop
+    μ-loop
+    loop-holds
+    (λ c κs. search needs)
+    (λ c. search needs)
+    (λ c. search needs)
+    shared-slice-read-larger
+    (λ c κs. search needs)
+    (λ c κs. search needs)
+    (λ c. search needs)
+    loop-again
+    returns)

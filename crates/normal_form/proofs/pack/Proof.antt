@@ -1,0 +1,94 @@
+-- `packing::pack` meets its contract. The loop's invariant: the actions of the steps from k on are still to be placed.
+-- The measure is what is left of the steps. Assumes nothing.
+use mathlib.Core.Path.{sym, ap, _∙_}
+use mathlib.Core.List.{map}
+use Prim.Native.Nat.{ℕ, _-_, _/_, _≤_}
+use native.Mathlib.Omega.{arith}
+use lib.ListN.{length, drop, length-replicate}
+use Rattle.sets.specs.Bits.{members}
+use Rattle.systems.specs.Checking.{flat}
+use Rattle.sheet.specs.Numbers.{number, parts}
+use Rattle.normal_form.specs.placing.Placing.{dependentOn}
+use Rattle.normal_form.proofs.placing.Showing.{Remaining, remaining-none, part-known, part-bounded, remaining-rest}
+use Rattle.normal_form.specs.Packed.{Packed}
+use Rattle.normal_form.proofs.Sections.{flat-step, flat-none, remaining-all}
+use Rattle.normal_form.proofs.pack.Statement.{statement}
+use Rattle.normal_form.proofs.pack.Tie as tie
+
+abbrev Inv-loop : tie.InvT-loop
+Inv-loop section owners packed₀ count last₀ steps₀ k₀ packed last steps k =
+    (k ≤ length section / 8)
+    × Remaining owners (flat (drop k (map number (parts 8 (length section / 8) section)))) last packed steps
+    (λ last′ packed′ count′. Packed (dependentOn owners) (flat (map number (parts 8 (length section / 8) section))) packed′ count′)
+
+abbrev μ-loop : tie.MeasureT-loop
+μ-loop section owners packed₀ count last₀ steps₀ k₀ packed last steps k = count - k
+
+loop-holds : tie.Need-loop-holds Inv-loop μ-loop
+loop-holds c =
+    let start = c .before .before .before in
+    (omega arith, remaining-all _ _ (start .args .packed .now) (start .pre .1) (start .pre .3) (start .pre .2))
+
+step-at-requires : tie.Need-step-at-requires Inv-loop μ-loop
+step-at-requires c κs = omega arith
+
+slice-aggregate-place-step : tie.Need-slice-aggregate-place-step Inv-loop μ-loop
+slice-aggregate-place-step c = sym (c .before .before .before .loop .inv .1 .last-size)
+
+place-step-requires : tie.Need-place-step-requires Inv-loop μ-loop
+place-step-requires c κs =
+    let start = c .before .before .before .before .before .before .before .before in
+    let b = start .args .section .now in
+    let turn = c .before .before .before .before .loop in
+    let step = c .before .before .step-at in
+    let e = flat-step 8 (length b / 8) b (turn .k) (step .result) (c .before .before .before .loop-test .taken) (step .ensures) in
+    let R = turn .inv .1 in (
+      start .pre .0,
+      R .last-size,
+      R .packed-size,
+      part-known _ _ _ _ _ _ (members (step .result)) _ e R,
+      part-bounded _ _ _ _ _ _ (members (step .result)) _ e R,
+    )
+
+add-k : tie.Need-add-k Inv-loop μ-loop
+add-k c = omega arith
+
+loop-less : tie.Need-loop-less Inv-loop μ-loop
+loop-less c = omega arith
+
+loop-again : tie.Need-loop-again Inv-loop μ-loop
+loop-again c =
+    let b = c .before .before .before .before .before .before .before .before .before .before .before .before .args .section .now in
+    let turn = c .before .before .before .before .before .before .before .before .loop in
+    let step = c .before .before .before .before .before .before .step-at in
+    let e = flat-step 8 (length b / 8) b (turn .k) (step .result) (c .before .before .before .before .before .before .before .loop-test .taken) (step .ensures) in
+    let placed = c .before .before .before .place-step in (
+      omega arith,
+      remaining-rest _ _ _ _ _ _ (members (step .result)) _ e (turn .inv .1) _ _ _ (placed .ensures) (placed .kept .1 .1 .1 .0)
+          (placed .kept .1 .1 .1 .1 .0),
+    )
+
+same-length : tie.Need-same-length Inv-loop μ-loop
+same-length c =
+    c .before .loop .inv .1 .packed-size ∙ sym (ap length (c .before .before .before .before .before .pre .1) ∙ length-replicate {A = ℕ} 1024 0)
+
+returns : tie.Need-returns Inv-loop μ-loop
+returns c =
+    let b = c .before .before .before .before .before .args .section .now in
+    remaining-none _ _ _ _ _ _ (flat-none 8 (length b / 8) b (c .before .loop .k) (c .loop-test .left)) (c .before .loop .inv .1)
+
+pub pack-spec : {M : Type 1} → statement M
+pack-spec =
+    tie.close
+    (tie.spec
+    Inv-loop
+    μ-loop
+    loop-holds
+    step-at-requires
+    slice-aggregate-place-step
+    place-step-requires
+    add-k
+    loop-less
+    loop-again
+    same-length
+    returns)

@@ -1,0 +1,79 @@
+-- `placing::place_step` meets its contract. The loop's invariant: the actions of the set that is left are still to be placed.
+-- The measure is that set, which falls. Assumes nothing.
+use mathlib.Core.Path.{sym, ap, _∙_}
+use mathlib.Core.List.{[], _∷_}
+use Prim.Native.Nat.{ℕ}
+use Rattle.sets.specs.Bits.{members}
+use Rattle.sets.proofs.Members.{members-zero}
+use Rattle.normal_form.specs.placing.Placing.{Placed}
+use Rattle.normal_form.proofs.placing.Showing.{Remaining, remaining-none, part-known, part-bounded, remaining-rest}
+use Rattle.normal_form.proofs.placing.place_step.Statement.{statement}
+use Rattle.normal_form.proofs.placing.place_step.Tie as tie
+
+abbrev Inv-loop : tie.InvT-loop
+Inv-loop owners step count last₀ packed₀ steps₀ left₀ last packed steps left =
+    Remaining owners (members left) last packed steps (λ last′ packed′ count′. Placed owners (members step) last₀ packed₀ count last′ packed′ count′)
+
+abbrev μ-loop : tie.MeasureT-loop
+μ-loop owners step count last₀ packed₀ steps₀ left₀ last packed steps left = left
+
+loop-holds : tie.Need-loop-holds Inv-loop μ-loop
+loop-holds c =
+    let pre = c .before .before .before .pre in
+    record { last-size = pre .1; packed-size = pre .2; known = pre .3; bounded = pre .4; finish = λ last packed count P. P }
+
+lowest-requires : tie.Need-lowest-requires Inv-loop μ-loop
+lowest-requires c κs = c .loop-test .taken
+
+place-requires : tie.Need-place-requires Inv-loop μ-loop
+place-requires c κs =
+    let pre = c .before .before .before .before .before .before .before .before .pre in
+    let R = c .before .before .before .before .loop .inv in
+    let first = c .before .before .lowest in (
+      pre .0,
+      R .last-size,
+      R .packed-size,
+      first .ensures .0,
+      part-known _ _ _ _ _ _ (first .result ∷ []) _ (first .ensures .1) R,
+      part-bounded _ _ _ _ _ _ (first .result ∷ []) _ (first .ensures .1) R,
+    )
+
+without-lowest-requires : tie.Need-without-lowest-requires Inv-loop μ-loop
+without-lowest-requires c κs = c .before .before .before .before .before .before .before .before .loop-test .taken
+
+loop-less : tie.Need-loop-less Inv-loop μ-loop
+loop-less c = c .without-lowest .ensures .1
+
+loop-again : tie.Need-loop-again Inv-loop μ-loop
+loop-again c =
+    let R = c .before .before .before .before .before .before .before .before .before .before .loop .inv in
+    let first = c .before .before .before .before .before .before .before .before .lowest in
+    let placed = c .before .before .before .before .before .place in
+    remaining-rest _ _ _ _ _ _ (first .result ∷ []) (members (c .without-lowest .result))
+    (first .ensures .1 ∙ ap (λ (x : ℕ). first .result ∷ members x) (sym (c .without-lowest .ensures .0))) R _ _ _ (placed .ensures)
+    (placed .kept .1 .1 .1 .0) (placed .kept .1 .1 .1 .1 .0)
+
+same-length : tie.Need-same-length Inv-loop μ-loop
+same-length c = c .before .loop .inv .last-size ∙ sym (c .before .before .before .before .before .pre .1)
+
+same-length-2 : tie.Need-same-length-2 Inv-loop μ-loop
+same-length-2 c = c .before .loop .inv .packed-size ∙ sym (c .before .before .before .before .before .pre .2)
+
+returns : tie.Need-returns Inv-loop μ-loop
+returns c = remaining-none _ _ _ _ _ _ (ap members (c .loop-test .left) ∙ members-zero) (c .before .loop .inv)
+
+pub place-step-spec : {M : Type 1} → statement M
+place-step-spec =
+    tie.close
+    (tie.spec
+    Inv-loop
+    μ-loop
+    loop-holds
+    lowest-requires
+    place-requires
+    without-lowest-requires
+    loop-less
+    loop-again
+    same-length
+    same-length-2
+    returns)

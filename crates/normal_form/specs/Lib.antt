@@ -1,0 +1,3 @@
+pub mod Packed
+pub mod levels
+pub mod placing

@@ -1,0 +1,39 @@
+// The last step of each component, kept in a table: read and entered for all components of a set.
+ghost use mathlib.Core.Path.{_≡_};
+ghost use Prim.Native.Nat.{_^_, _<_, max};
+ghost use lib.ListN.{length};
+ghost use Rattle.sets.specs.Bits.{members};
+ghost use Rattle.normal_form.specs.levels.Levels.{largest, Marked};
+
+// The larger of two numbers.
+pub fn larger(x: usize, y: usize) -> usize
+    ensures { λ r. ⌜ r ≡ max x y ⌝ }
+{
+    if x < y { y } else { x }
+}
+
+// The largest of a number and the entries of the components of a set.
+pub fn highest(mine: u64, from: usize, last: &[usize]) -> usize
+    requires { ⌜ (mine < 2 ^ 16) × (length (now last) ≡ 16) ⌝ }
+    ensures { λ r. ⌜ r ≡ max from (largest (now (last .entry)) (members mine)) ⌝ }
+{
+    let mut at = from;
+    let mut left = mine;
+    while left != 0 {
+        at = larger(last[sets::lowest(left) as usize], at);
+        left = sets::without_lowest(left);
+    }
+    at
+}
+
+// Enters one past the level for each component of a set.
+pub fn mark(mine: u64, level: usize, last: &mut [usize])
+    requires { ⌜ (mine < 2 ^ 16) × (level < 1024) × (length (now last) ≡ 16) ⌝ }
+    ensures { λ _. ⌜ Marked mine level (now (last .entry)) (now (last .exit)) ⌝ }
+{
+    let mut left = mine;
+    while left != 0 {
+        last[sets::lowest(left) as usize] = level + 1;
+        left = sets::without_lowest(left);
+    }
+}

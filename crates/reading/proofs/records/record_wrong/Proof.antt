@@ -1,0 +1,97 @@
+-- `records::record_wrong` meets its contract: the tests are the refusal's conditions taken together.
+-- Assumes nothing.
+use mathlib.Core.Path.{_≡_, sym, ap, _∙_}
+use mathlib.Core.Bool.{Bool, true, false, not, _||_, or-assoc}
+use mathlib.Core.List.{List}
+use Prim.Native.Nat.{ℕ, _+_, _*_, _^_, _≤_}
+use native.Mathlib.Omega.{arith}
+use lib.Dec.{leb, ltb, eqb}
+use lib.ListN.{getD}
+use Rattle.sets.proofs.Bools.{or-false, ltb-false}
+use Rattle.sheet.specs.Numbers.{field}
+use Rattle.sheet.specs.Layout.{statesOf, fillerOf, initialOf, alphabetOf}
+use Rattle.sheet.specs.Refusals.{outside, recordWrong}
+use Rattle.sheet.proofs.Numbers.{field-one}
+use borrow.Author.Needs.{needs}
+use Rattle.reading.proofs.records.record_wrong.Statement.{statement}
+use Rattle.reading.proofs.records.record_wrong.Tie as tie
+
+first : (a b c d e f : Bool) → a ≡ true → true ≡ (((((a || b) || c) || d) || e) || f)
+first a b c d e f h = rw h
+
+others : (a b c d e f x y : Bool) → a ≡ false → x ≡ (c || d) → y ≡ (e || f) → ((b || x) || y) ≡ (((((a || b) || c) || d) || e) || f)
+others a true c d e f x y h ex ey = rw h
+others a false c d e f x y h ex ey = rw (h, ex, ey) (sym (or-assoc (c || d) e f))
+
+-- the set x is empty or has an element at or above k
+abbrev missing : ℕ → ℕ → Bool
+missing k x = eqb x 0 || leb (2 ^ k) x
+
+-- the tests, with the state count s as it was read
+module _ (b : List ℕ) (m j s : ℕ) (e : s ≡ getD b (16 * j) 0) where
+  counted : s ≡ statesOf b j
+  unfolding statesOf
+  counted = e ∙ sym (field-one (16 * j) b)
+
+  states-wrong : outside 1 32 s ≡ true → true ≡ recordWrong b m j
+  unfolding recordWrong
+  states-wrong h = first (outside 1 32 (statesOf b j)) _ _ _ _ _ (ap (outside 1 32) (sym counted) ∙ h)
+
+  sets-tested : (filler initial alphabet : Bool) → outside 1 32 s ≡ false → filler ≡ not (eqb (field (16 * j + 1) 3 b) 0)
+      → initial ≡ missing s (field (16 * j + 4) 4 b) → alphabet ≡ missing m (field (16 * j + 8) 8 b)
+      → ((filler || initial) || alphabet) ≡ recordWrong b m j
+  unfolding recordWrong fillerOf initialOf alphabetOf
+  sets-tested x y z h ex ey ez =
+      let k = statesOf b j in
+      let i = field (16 * j + 4) 4 b in
+      let a = field (16 * j + 8) 8 b in
+      ap (λ (t : Bool). (t || y) || z) ex
+      ∙ others (outside 1 32 k) (not (eqb (field (16 * j + 1) 3 b) 0)) (eqb i 0) (leb (2 ^ k) i) (eqb a 0) (leb (2 ^ m) a) y z
+      (ap (outside 1 32) (sym counted) ∙ h) (ey ∙ ap (λ (n : ℕ). missing n i) counted) ez
+
+-- a state count that passed is at most 32
+states-fit : (s : ℕ) (r : Bool) → r ≡ outside 1 32 s → r ≡ false → s ≤ 64
+states-fit s r e f = let h = ltb-false 32 s .0 (or-false (ltb s 1) (ltb 32 s) .0 (sym e ∙ f) .1) in omega arith
+
+returns : tie.Need-returns
+returns c =
+    let k = c .before in
+    let a = k .before .before .before .before .args in
+    let w = k .before .wide in
+    states-wrong (a .records .now) (a .m) (a .j) (w .result) (w .ensures .0) (sym (k .miscounted .ensures) ∙ c .if1 .taken)
+
+misses-requires : tie.Need-misses-requires
+misses-requires c κs =
+    let e = c .before .before in
+    states-fit (e .before .before .wide .result) (e .before .miscounted .result) (e .before .miscounted .ensures) (e .if1 .left)
+
+returns-2 : tie.Need-returns-2
+returns-2 c =
+    let i = c .before .before in
+    let f = i .before .before in
+    let k = f .before .before in
+    let a = k .before .before .before .before .args in
+    let w = k .before .wide in
+    sets-tested (a .records .now) (a .m) (a .j) (w .result) (w .ensures .0) (f .filled .result) (i .misses .result) (c .misses2 .result)
+    (sym (k .miscounted .ensures) ∙ f .before .if1 .left) (f .filled .ensures)
+    (i .misses .ensures ∙ ap (missing (w .result)) (i .before .number4 .ensures .0))
+    (c .misses2 .ensures ∙ ap (missing (a .m)) (c .before .number8 .ensures))
+
+pub record-wrong-spec : {M : Type 1} → statement M
+record-wrong-spec =
+    tie.close
+    (tie.spec
+    (λ c. search needs)
+    (λ c. search needs)
+    (λ c κs. search needs)
+    (λ c κs. search needs)
+    returns
+    (λ c. search needs)
+    (λ c κs. search needs)
+    (λ c. search needs)
+    (λ c κs. search needs)
+    misses-requires
+    (λ c. search needs)
+    (λ c κs. search needs)
+    (λ c κs. search needs)
+    returns-2)

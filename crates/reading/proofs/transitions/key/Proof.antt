@@ -1,0 +1,15 @@
+-- `transitions::key` meets its contract: four bytes weighed by powers of 256.
+-- Assumes nothing.
+use Rattle.reading.proofs.transitions.Order.{heavy-pairs}
+use borrow.Author.Needs.{needs}
+use Rattle.reading.proofs.transitions.key.Statement.{statement}
+use Rattle.reading.proofs.transitions.key.Tie as tie
+
+returns : tie.Need-returns
+returns c =
+    let a = c .before .before .before in
+    heavy-pairs (a .args .at) (a .args .s .now) (a .pre) (c .before .pair .result) (c .pair2 .result) (c .before .pair .ensures .0) (c .pair2 .ensures .0)
+
+pub key-spec : {M : Type 1} → statement M
+key-spec =
+    tie.close (tie.spec (λ c κs. search needs) (λ c. search needs) (λ c. search needs) (λ c κs. search needs) (λ c. search needs) returns)

@@ -1,0 +1,89 @@
+// Refusals 5 and 6: the component records of a sheet, handed over as a part of it, and the alphabets that they hold.
+ghost use mathlib.Core.Path.{_≡_};
+ghost use mathlib.Core.Bool.{not};
+ghost use Prim.Native.Nat.{_+_, _-_, _*_, _^_, _≤_};
+ghost use lib.Dec.{eqb};
+ghost use lib.ListN.{length};
+ghost use Rattle.sets.specs.Lists.{some, below};
+ghost use Rattle.sheet.specs.Numbers.{field};
+ghost use Rattle.sheet.specs.Refusals.{outside, recordWrong};
+ghost use Rattle.reading.specs.records.Alphabets.{UsedBy, unusedIn};
+
+// Whether a count of states is outside its limits.
+fn miscounted(states: u64) -> bool
+    ensures { λ r. ⌜ r ≡ outside 1 32 states ⌝ }
+{
+    (states < 1) | (32 < states)
+}
+
+// Whether one of the three bytes at `at` is not zero.
+fn filled(s: &[u8], at: usize) -> bool
+    requires { ⌜ at + 3 ≤ length (now s) ⌝ }
+    ensures { λ r. ⌜ r ≡ not (eqb (field at 3 (now (s .entry))) 0) ⌝ }
+{
+    (numbers::number2(s, at) != 0) | (s[at + 2] != 0)
+}
+
+// 5, of the record with index j.
+fn record_wrong(records: &[u8], m: u64, j: usize) -> bool
+    requires { ⌜ (m ≤ 64) × (16 * j + 16 ≤ length (now records)) ⌝ }
+    ensures { λ r. ⌜ r ≡ recordWrong (now (records .entry)) m j ⌝ }
+{
+    let at = 16 * j;
+    let states = numbers::wide(records[at]);
+    if miscounted(states) {
+        return true;
+    }
+    filled(records, at + 1)
+        | sets::misses(numbers::number4(records, at + 4), states)
+        | sets::misses(numbers::number8(records, at + 8), m)
+}
+
+// 5: whether some record is wrong, of n records.
+pub fn records_wrong(records: &[u8], n: usize, m: u64) -> bool
+    requires { ⌜ (m ≤ 64) × (n ≤ 16) × (16 * n ≤ length (now records)) ⌝ }
+    ensures { λ r. ⌜ r ≡ some (recordWrong (now (records .entry)) m) (below n) ⌝ }
+{
+    let mut j = 0;
+    while j < n {
+        if record_wrong(records, m, j) {
+            return true;
+        }
+        j += 1;
+    }
+    false
+}
+
+// The union of the first n alphabets.
+fn used(alphabets: &[u64], n: usize) -> u64
+    requires { ⌜ n ≤ length (now alphabets) ⌝ }
+    ensures { λ r. ⌜ UsedBy (now (alphabets .entry)) n r ⌝ }
+{
+    let mut all = 0;
+    let mut j = 0;
+    while j < n {
+        all = all | alphabets[j];
+        j += 1;
+    }
+    all
+}
+
+// The set of the numbers below m.
+fn full(m: u32) -> u64
+    requires { ⌜ m ≤ 64 ⌝ }
+    ensures { λ r. ⌜ r ≡ 2 ^ m - 1 ⌝ }
+{
+    if m == 64 {
+        return 18446744073709551615;
+    }
+    (1u64 << m) - 1
+}
+
+// 6: whether some action below m is in none of the n alphabets.
+pub fn action_unused(alphabets: &[u64], n: usize, m: u32) -> bool
+    requires { ⌜ (m ≤ 64) × (n ≤ length (now alphabets)) ⌝ }
+    ensures { λ r. ⌜ r ≡ unusedIn (now (alphabets .entry)) n m ⌝ }
+{
+    let all = full(m);
+    (used(alphabets, n) & all) != all
+}

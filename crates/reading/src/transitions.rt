@@ -1,0 +1,124 @@
+// Refusals 7 and 8: the transition section of a sheet, handed over as a part of it.
+ghost use mathlib.Core.Path.{_≡_};
+ghost use mathlib.Core.Bool.{not, _||_};
+ghost use mathlib.Core.List.{map};
+ghost use Prim.Native.Nat.{_+_, _*_, _/_, _≤_, _<_};
+ghost use lib.Dec.{eqb};
+ghost use lib.ListN.{length, take, drop, getD};
+ghost use Rattle.sets.specs.Lists.{some};
+ghost use Rattle.sets.specs.Bits.{member};
+ghost use Rattle.sheet.specs.Numbers.{parts};
+ghost use Rattle.sheet.specs.Layout.{statesOf, transitionOf};
+ghost use Rattle.sheet.specs.Refusals.{risingBytes};
+ghost use Rattle.reading.specs.transitions.Fitting.{misfit, unfit, heavyFirst};
+ghost use Rattle.reading.specs.transitions.Numbered.{transitionsNumber};
+
+// Whether a label is neither that of an internal move nor in the alphabet.
+fn label_wrong(alphabet: u64, label: u8) -> bool
+    ensures { λ r. ⌜ r ≡ not (eqb label 255 || member alphabet label) ⌝ }
+{
+    if label < 64 {
+        if sets::has(alphabet, label as u32) {
+            return false;
+        }
+    }
+    label != 255
+}
+
+// Whether the transition at `at` does not fit a component with so many states and this alphabet.
+fn unfit_at(section: &[u8], at: usize, states: u8, alphabet: u64) -> bool
+    requires { ⌜ at + 4 ≤ length (now section) ⌝ }
+    ensures { λ r. ⌜ r ≡ unfit states alphabet (transitionOf (take 4 (drop at (now (section .entry))))) ⌝ }
+{
+    if states <= section[at + 1] {
+        return true;
+    }
+    if states <= section[at + 3] {
+        return true;
+    }
+    label_wrong(alphabet, section[at + 2])
+}
+
+// 7: whether some transition of the section does not fit its component. Mostly it has the component of the one before, whose number of
+// states and alphabet are at hand.
+fn transitions_wrong(section: &[u8], records: &[u8], alphabets: &[u64], n: usize) -> bool
+    requires { ⌜ (1 ≤ n) × (16 * n ≤ length (now records)) × (n ≤ length (now alphabets)) × (n ≤ 16) ⌝ }
+    ensures { λ r. ⌜ r
+        ≡ some (misfit (statesOf (now (records .entry))) (now (alphabets .entry)) n)
+        (map transitionOf (parts 4 (length (now (section .entry)) / 4) (now (section .entry)))) ⌝ }
+{
+    let count = section.len() / 4;
+    let mut current = 0;
+    let mut states = records[0];
+    let mut alphabet = alphabets[0];
+    let mut k = 0;
+    while k < count {
+        let component = section[4 * k] as usize;
+        if component != current {
+            if n <= component {
+                return true;
+            }
+            current = component;
+            states = records[16 * component];
+            alphabet = alphabets[component];
+        }
+        if unfit_at(section, 4 * k, states, alphabet) {
+            return true;
+        }
+        k += 1;
+    }
+    false
+}
+
+// The two bytes at `at` as one number, the first byte heaviest.
+fn pair(s: &[u8], at: usize) -> u64
+    requires { ⌜ at + 2 ≤ length (now s) ⌝ }
+    ensures { λ r. ⌜ (r ≡ 256 * getD (now (s .entry)) at 0 + getD (now (s .entry)) (at + 1) 0) × (r < 65536) ⌝ }
+{
+    256 * numbers::wide(s[at]) + numbers::wide(s[at + 1])
+}
+
+// The four bytes at `at` as one number, the first byte heaviest: byte strings of four rise as these numbers do.
+fn key(s: &[u8], at: usize) -> u64
+    requires { ⌜ at + 4 ≤ length (now s) ⌝ }
+    ensures { λ r. ⌜ r ≡ heavyFirst (take 4 (drop at (now (s .entry)))) ⌝ }
+{
+    65536 * pair(s, at) + pair(s, at + 2)
+}
+
+// 8: whether the transitions of the section do not rise strictly.
+fn order_wrong(section: &[u8]) -> bool
+    ensures { λ r. ⌜ r ≡ not (risingBytes (parts 4 (length (now (section .entry)) / 4) (now (section .entry)))) ⌝ }
+{
+    let count = section.len() / 4;
+    if count == 0 {
+        return false;
+    }
+    let mut last = key(section, 0);
+    let mut k = 1;
+    while k < count {
+        let read = key(section, 4 * k);
+        if read <= last {
+            return true;
+        }
+        last = read;
+        k += 1;
+    }
+    false
+}
+
+// 7, 8 or 0: whether some transition of the section does not fit its component, else whether they do not rise strictly.
+pub fn transitions_refused(section: &[u8], records: &[u8], alphabets: &[u64], n: usize) -> u64
+    requires { ⌜ (1 ≤ n) × (16 * n ≤ length (now records)) × (n ≤ length (now alphabets)) × (n ≤ 16) ⌝ }
+    ensures { λ r. ⌜ r
+        ≡ transitionsNumber (statesOf (now (records .entry))) (now (alphabets .entry)) n
+        (parts 4 (length (now (section .entry)) / 4) (now (section .entry))) ⌝ }
+{
+    if transitions_wrong(section, records, alphabets, n) {
+        return 7;
+    }
+    if order_wrong(section) {
+        return 8;
+    }
+    0
+}
