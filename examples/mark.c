@@ -1,17 +1,31 @@
 /* Marks a sheet from C, and tells whether a second one does the same work.
 
-     cc -I include examples/mark.c target/staticlib/libcalls.a -o mark-c
-     ./mark-c sheets/pair.sheet sheets/pair.sheet                          */
+     tools/build
+     cc -I include examples/mark.c target/staticlib/liboatmist.a -o mark-c
+     ./mark-c sheets/pair.sheet sheets/pair.sheet
+
+   The exit status is 2, and nothing is marked, where a file cannot be read. */
 #include "oatmist.h"
 #include <stdio.h>
+#include <stdlib.h>
 
-/* Longer than any sheet, so that longer files are refused for their length. */
-static uint8_t first[65536], second[65536];
+/* One byte more than any sheet has, so that longer files are refused for their length. */
+#define ROOM (OATMIST_LONGEST_SHEET + 1)
+static uint8_t first[ROOM], second[ROOM];
 
+/* The file's first bytes, and how many there are. */
 static size_t load(const char *path, uint8_t *bytes) {
     FILE *file = fopen(path, "rb");
-    size_t length = file ? fread(bytes, 1, 65536, file) : 0;
-    if (file) fclose(file);
+    if (!file) {
+        perror(path);
+        exit(2);
+    }
+    size_t length = fread(bytes, 1, ROOM, file);
+    if (ferror(file)) {
+        perror(path);
+        exit(2);
+    }
+    fclose(file);
     return length;
 }
 
@@ -21,14 +35,14 @@ int main(int count, char **paths) {
         return 2;
     }
     size_t length = load(paths[1], first), other = load(paths[2], second);
-    static uint8_t text[16384]; /* always long enough for a report */
-    uint64_t answer[2];
-    oatmist_report(first, length, text, sizeof text, answer, 1);
-    fwrite(text, 1, answer[0], stdout);
-    uint64_t refusal = oatmist_same_work(first, length, second, other, answer, 2);
-    if (refusal)
-        printf("pair refused %d %d of sheet %d\n", (int)refusal, (int)answer[0], (int)answer[1]);
+    static uint8_t text[OATMIST_REPORT_ROOM];
+    uint64_t answer;
+    if (oatmist_report(first, length, text, sizeof text, &answer, 1) == 0)
+        fwrite(text, 1, answer, stdout);
+    uint64_t told = oatmist_same_work(first, length, second, other, &answer, 1);
+    if (told)
+        printf("pair refused %d %d of sheet %d\n", OATMIST_REFUSAL(told), OATMIST_STEP(told), OATMIST_SHEET(told));
     else
-        printf("%s\n", answer[0] ? "same work" : "other work");
+        printf("%s\n", answer ? "same work" : "other work");
     return 0;
 }

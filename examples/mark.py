@@ -1,49 +1,73 @@
 #!/usr/bin/env python3
 """Marks a sheet from Python, and tells whether a second one does the same work.
 
-    cc -shared -o liboatmist.so -Wl,--whole-archive target/staticlib/libcalls.a -Wl,--no-whole-archive
+    tools/build
+    cc -shared -o liboatmist.so -Wl,--whole-archive target/staticlib/liboatmist.a -Wl,--no-whole-archive
     python3 examples/mark.py ./liboatmist.so sheets/pair.sheet sheets/pair.sheet
+
+The exit status is 2, and nothing is marked, where a file cannot be read.
 """
 import ctypes
 import sys
+
+
+class Refused(Exception):
+    """A refusal: its number, the step that it is about, and which of two sheets."""
+
+    def __init__(self, told):
+        self.number, self.sheet, self.step = told & 255, told >> 8 & 255, told >> 16
 
 
 class Desk:
     """The calls as include/oatmist.h declares them: a slice is a pointer and a length."""
 
     def __init__(self, path):
-        library = ctypes.CDLL(path)
-        bytes_, size, words = ctypes.c_char_p, ctypes.c_size_t, ctypes.POINTER(ctypes.c_uint64)
-        self._report, self._same_work = library.oatmist_report, library.oatmist_same_work
-        self._report.argtypes = self._same_work.argtypes = [bytes_, size, bytes_, size, words, size]
-        self._report.restype = self._same_work.restype = ctypes.c_uint64
+        self.library = ctypes.CDLL(path)
+
+    def ask(self, call, *slices):
+        """Makes a call with these bytes; gives back its one value."""
+        value = (ctypes.c_uint64 * 1)()
+        arguments = []
+        for array in (*slices, value):
+            arguments += [array, ctypes.c_size_t(len(array))]
+        function = self.library[call]
+        function.restype = ctypes.c_uint64
+        told = function(*arguments)
+        if told:
+            raise Refused(told)
+        return value[0]
 
     def report(self, sheet):
         """What the program prints for a sheet."""
         text = ctypes.create_string_buffer(16384)  # always long enough for a report
-        answer = (ctypes.c_uint64 * 1)()
-        self._report(sheet, len(sheet), text, len(text), answer, 1)
-        return text.raw[: answer[0]].decode()
+        length = self.ask("oatmist_report", sheet, text)
+        return text.raw[:length].decode()
 
     def same_work(self, first, second):
-        """True or False; or the refusal's number, its step index and which sheet."""
-        answer = (ctypes.c_uint64 * 2)()
-        number = self._same_work(first, len(first), second, len(second), answer, 2)
-        return (number, answer[0], answer[1]) if number else answer[0] == 1
+        """Whether two sheets do the same work."""
+        return self.ask("oatmist_same_work", first, second) == 1
+
+
+def load(path):
+    try:
+        with open(path, "rb") as file:
+            return file.read()
+    except OSError as error:
+        print(f"mark.py: {error}", file=sys.stderr)
+        sys.exit(2)
 
 
 def main():
     if len(sys.argv) != 4:
-        sys.exit(f"usage: {sys.argv[0]} LIBRARY SHEET SHEET")
+        print(f"usage: {sys.argv[0]} LIBRARY SHEET SHEET", file=sys.stderr)
+        sys.exit(2)
     desk = Desk(sys.argv[1])
-    with open(sys.argv[2], "rb") as one, open(sys.argv[3], "rb") as two:
-        first, second = one.read(), two.read()
+    first, second = load(sys.argv[2]), load(sys.argv[3])
     print(desk.report(first), end="")
-    answer = desk.same_work(first, second)
-    if isinstance(answer, tuple):
-        print("pair refused %d %d of sheet %d" % answer)
-    else:
-        print("same work" if answer else "other work")
+    try:
+        print("same work" if desk.same_work(first, second) else "other work")
+    except Refused as refused:
+        print(f"pair refused {refused.number} {refused.step} of sheet {refused.sheet}")
 
 
 if __name__ == "__main__":

@@ -1,11 +1,14 @@
 //! Marks a sheet from Rust, and tells whether a second one does the same work.
 //!
-//!     rustc --edition 2021 examples/mark.rs -L target/staticlib -l static=calls -o mark-rs
+//!     tools/build
+//!     rustc --edition 2021 examples/mark.rs -L target/staticlib -l static=oatmist -o mark-rs
 //!     ./mark-rs sheets/pair.sheet sheets/pair.sheet
+//!
+//! The exit status is 2, and nothing is marked, where a file cannot be read.
 use std::io::Write;
 
 /// The calls as `include/oatmist.h` declares them: a slice is a pointer and a length.
-mod desk {
+mod library {
     extern "C" {
         pub fn oatmist_report(
             sheet: *const u8,
@@ -26,39 +29,63 @@ mod desk {
     }
 }
 
-/// What the program prints for a sheet.
-fn report(sheet: &[u8]) -> Vec<u8> {
-    let mut text = vec![0; 16_384]; // always long enough for a report
-    let mut answer = [0];
-    unsafe { desk::oatmist_report(sheet.as_ptr(), sheet.len(), text.as_mut_ptr(), text.len(), answer.as_mut_ptr(), 1) };
-    text.truncate(answer[0] as usize);
-    text
+/// A refusal: its number, the step that it is about, and which of two sheets.
+struct Refusal {
+    number: u64,
+    step: u64,
+    sheet: u64,
 }
 
-/// Whether two sheets do the same work; or the refusal, its step index and which sheet.
-fn same_work(first: &[u8], second: &[u8]) -> Result<bool, (u64, u64, u64)> {
-    let mut answer = [0; 2];
-    let refusal = unsafe {
-        desk::oatmist_same_work(first.as_ptr(), first.len(), second.as_ptr(), second.len(), answer.as_mut_ptr(), 2)
-    };
-    match refusal {
-        0 => Ok(answer[0] == 1),
-        number => Err((number, answer[0], answer[1])),
+/// The one value of a call, or the refusal, by what the call returned.
+fn taken_apart(told: u64, value: u64) -> Result<u64, Refusal> {
+    match told {
+        0 => Ok(value),
+        _ => Err(Refusal { number: told & 255, step: told >> 16, sheet: told >> 8 & 255 }),
     }
 }
 
-fn main() -> std::io::Result<()> {
+/// What the program prints for a sheet.
+fn report(sheet: &[u8]) -> Result<Vec<u8>, Refusal> {
+    let mut text = vec![0; 16_384]; // always long enough for a report
+    let mut length = 0;
+    let told = unsafe {
+        library::oatmist_report(sheet.as_ptr(), sheet.len(), text.as_mut_ptr(), text.len(), &mut length, 1)
+    };
+    text.truncate(taken_apart(told, length)? as usize);
+    Ok(text)
+}
+
+/// Whether two sheets do the same work.
+fn same_work(first: &[u8], second: &[u8]) -> Result<bool, Refusal> {
+    let mut same = 0;
+    let told = unsafe {
+        library::oatmist_same_work(first.as_ptr(), first.len(), second.as_ptr(), second.len(), &mut same, 1)
+    };
+    Ok(taken_apart(told, same)? == 1)
+}
+
+/// Ends the program with what is wrong.
+fn stop(wrong: String) -> ! {
+    eprintln!("mark-rs: {wrong}");
+    std::process::exit(2)
+}
+
+fn load(path: &str) -> Vec<u8> {
+    std::fs::read(path).unwrap_or_else(|error| stop(format!("{path}: {error}")))
+}
+
+fn main() {
     let paths: Vec<String> = std::env::args().skip(1).collect();
     let [first, second] = &paths[..] else {
-        eprintln!("usage: mark-rs SHEET SHEET");
-        std::process::exit(2);
+        stop("usage: mark-rs SHEET SHEET".to_string())
     };
-    let (first, second) = (std::fs::read(first)?, std::fs::read(second)?);
-    std::io::stdout().write_all(&report(&first))?;
+    let (first, second) = (load(first), load(second));
+    if let Ok(text) = report(&first) {
+        std::io::stdout().write_all(&text).unwrap();
+    }
     match same_work(&first, &second) {
         Ok(true) => println!("same work"),
         Ok(false) => println!("other work"),
-        Err((number, index, sheet)) => println!("pair refused {number} {index} of sheet {sheet}"),
+        Err(Refusal { number, step, sheet }) => println!("pair refused {number} {step} of sheet {sheet}"),
     }
-    Ok(())
 }

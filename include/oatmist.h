@@ -1,12 +1,25 @@
-/* The marking desk's calls for C, in the static library that `rt staticlib calls` makes.
+/* Oatmist for C and C++: the calls of the static library that `tools/build` makes.
 
-   A slice is passed as a pointer and a length in entries, in this order, each an argument of its own. No pointer is null, also for
-   the length 0; each is aligned for its type; and no array that is lent for an output overlaps another argument.
-   Each call takes any bytes as a sheet and always answers.
+   What a call is given. A sheet is any bytes: every call takes every sheet, and always answers. Each array is passed as a pointer and
+   a length in entries, in this order. A pointer may be null where its length is 0, is aligned for its type, and an array that is lent
+   to be written overlaps no other argument.
 
-   What is returned is 0, or the number of the refusal: 1 to 12 for a sheet, 13 for an output that is too short, 14 for two sheets over
-   other tables. The values of an answer go to the front of the lent array, as many as there is room for, and its other entries keep
-   their values. */
+   What a call returns. 0: the call answered. Its values stand at the front of the array `answer` (or `ends`), as many as there is room
+   for; the other entries keep their values. Not 0: the call refused, and every lent array is as it came. OATMIST_REFUSAL then has the
+   number of the refusal, OATMIST_STEP the index of the step that it is about (from 0; 0 where it is about no step), and OATMIST_SHEET
+   which of two sheets it is about (0 for the first, 1 for the second; 0 where it is about both, or there is but one).
+
+     uint64_t figure, told = oatmist_figure(sheet, length, &figure, 1);
+     if (told)
+         printf("refused %d %d\n", OATMIST_REFUSAL(told), OATMIST_STEP(told));
+     else
+         printf("figure %d\n", (int)figure);
+
+   Threads. The library keeps nothing between calls and takes no memory but the caller's stack: calls may run side by side, on the same
+   sheets too, as long as each has outputs of its own.
+
+   Stack. OATMIST_STACK bytes serve every call. Measured on x86-64, for the smallest and the largest sheets alike: check and process 8 KiB,
+   end_sets and stuck 9, figure, restate, winner and leaner 16, same_work 24, report 33. */
 #ifndef OATMIST_H
 #define OATMIST_H
 
@@ -17,39 +30,72 @@
 extern "C" {
 #endif
 
-/* The verdict. Five values: 0, n, m, T and S for an accepted sheet, the step index and four zeros for a refused one. */
+/* Limits of a sheet, in bytes; other lengths are refused. A restated sheet is never longer than its sheet. */
+#define OATMIST_SHORTEST_SHEET 26
+#define OATMIST_LONGEST_SHEET 16650
+
+/* The most components that a sheet has, and so the end sets of every sheet. */
+#define OATMIST_COMPONENTS 16
+
+/* An output of so many bytes always serves for a report. */
+#define OATMIST_REPORT_ROOM 16384
+
+/* Stack that serves every call, in bytes: nearly twice what was measured. */
+#define OATMIST_STACK 65536
+
+/* What a call returned, taken apart: its number in bits 0 to 7, the sheet in bits 8 to 15, the step index from bit 16 on. */
+#define OATMIST_REFUSAL(told) ((int)((told) & 255))
+#define OATMIST_SHEET(told) ((int)(((told) >> 8) & 255))
+#define OATMIST_STEP(told) ((int)((told) >> 16))
+
+/* The refusals. A call gives the lowest number that applies; among 10 to 12 the earliest faulty step comes first. Only 10 to 12 have a
+   step index other than 0. Of two sheets all refusals of the first come before those of the second, then 14. */
+enum oatmist_refusal {
+    OATMIST_REFUSAL_LENGTH = 1,        /* the sheet is too short or too long */
+    OATMIST_REFUSAL_MARK = 2,          /* it does not end in hexadecimal 46 53 */
+    OATMIST_REFUSAL_COUNTS = 3,        /* not 1 to 16 components, or not 1 to 64 actions */
+    OATMIST_REFUSAL_OFFSETS = 4,       /* the offsets do not fit, or too many transitions or steps */
+    OATMIST_REFUSAL_RECORD = 5,        /* a component's record is wrong */
+    OATMIST_REFUSAL_UNUSED_ACTION = 6, /* an action is in no alphabet */
+    OATMIST_REFUSAL_TRANSITION = 7,    /* a transition names something that is not there */
+    OATMIST_REFUSAL_ORDER = 8,         /* the transitions are not sorted, or one stands twice */
+    OATMIST_REFUSAL_ACTIONS = 9,       /* more than 1,024 actions over all steps */
+    OATMIST_REFUSAL_STEP = 10,         /* the step is empty, or has an unknown action */
+    OATMIST_REFUSAL_CLASH = 11,        /* two actions of the step share a component */
+    OATMIST_REFUSAL_NOT_ENABLED = 12,  /* an action of the step is not enabled before it */
+    OATMIST_REFUSAL_OUTPUT = 13,       /* the lent output is too short */
+    OATMIST_REFUSAL_TABLES = 14        /* two sheets over different components or transitions */
+};
+
+/* The check. Four values: the number of components, the number of actions, where the transitions begin and where the steps begin. */
 uint64_t oatmist_check(const uint8_t *sheet, size_t sheet_length, uint64_t *answer, size_t answer_length);
 
-/* Where each component may be after the last step. Sixteen values: the set of component j with bit i for state i; 0 for a component
-   that the sheet does not have, and for a refused sheet. */
+/* Where each component may be after the last step. Sixteen values: the set of component j, with bit i for state i; 0 for a component
+   that the sheet does not have. */
 uint64_t oatmist_end_sets(const uint8_t *sheet, size_t sheet_length, uint64_t *ends, size_t ends_length);
 
-/* Whether the execution is a process execution. One value: 0 for yes, else 1 + the index of the first step that offends; the step
-   index for a refused sheet. */
+/* Whether the execution is a process execution. One value: 0 for yes, else 1 + the index of the first step that offends. */
 uint64_t oatmist_process(const uint8_t *sheet, size_t sheet_length, uint64_t *answer, size_t answer_length);
 
-/* The sheet restated in normal form, written to the front of `out`. One value: how many bytes were written, or the step index of the
-   refusal. A refused call leaves `out` as it was, and the bytes behind the restated sheet keep their values. */
+/* The sheet restated in normal form, written to the front of `out`; the bytes behind it keep their values. One value: how many bytes
+   were written. An output that is too short is refusal 13. */
 uint64_t oatmist_restate(const uint8_t *sheet, size_t sheet_length, uint8_t *out, size_t out_length, uint64_t *answer, size_t answer_length);
 
-/* The concurrency figure. One value: the figure, or the step index of the refusal. */
+/* The concurrency figure. One value. */
 uint64_t oatmist_figure(const uint8_t *sheet, size_t sheet_length, uint64_t *answer, size_t answer_length);
 
-/* Whether no action is enabled in the end sets. One value: 1 for yes, 0 for no, or the step index of the refusal. */
+/* Whether no action is enabled in the end sets. One value: 1 for yes, 0 for no. */
 uint64_t oatmist_stuck(const uint8_t *sheet, size_t sheet_length, uint64_t *answer, size_t answer_length);
 
-/* The text that the program prints for the sheet, also for a refused one, written to the front of `out`; the bytes behind it keep their
-   values. One value: the length of the text. Here 1 is returned where `out` is too short: it is then left as it was, and the value is 0.
-   An output of 16384 bytes always serves. */
+/* The text that the program prints, written to the front of `out`; the bytes behind it keep their values. One value: its length. A
+   refused sheet has a text too, so 13, for an output that is too short, is the only refusal here. */
 uint64_t oatmist_report(const uint8_t *sheet, size_t sheet_length, uint8_t *out, size_t out_length, uint64_t *answer, size_t answer_length);
 
-/* Same work: whether two sheets are related. Two values: 1 for yes or 0 for no, and 0; for a refused pair the step index and which sheet
-   is refused, 0 or 1. All refusals of the first sheet come before those of the second, then 14, with 0 for both values. */
+/* Whether two sheets do the same work: they are related. One value: 1 for yes, 0 for no. */
 uint64_t oatmist_same_work(const uint8_t *first, size_t first_length, const uint8_t *second, size_t second_length, uint64_t *answer,
                            size_t answer_length);
 
-/* Which of two sheets has fewer restated steps. Two values: 0 for the first, also where they tie, or 1 for the second, and 0; for a
-   refused pair as above. */
+/* Which of two sheets has fewer restated steps. One value: 0 for the first, also where they tie, 1 for the second. */
 uint64_t oatmist_winner(const uint8_t *first, size_t first_length, const uint8_t *second, size_t second_length, uint64_t *answer,
                         size_t answer_length);
 
@@ -59,8 +105,8 @@ struct oatmist_part {
     size_t length;
 };
 
-/* The leaner answer: `*part` becomes the step section of the sheet that `oatmist_winner` tells, in the caller's own bytes, and an empty
-   part for a refused pair. Before the call `*part` is some part too: its pointer is not null, and its bytes can be read. */
+/* The leaner answer: `*part` becomes the step section of the sheet that `oatmist_winner` tells, in the caller's own bytes. For a refused
+   pair its length becomes 0, and its pointer is of no use. What `*part` was before does not matter. */
 void oatmist_leaner(const uint8_t *first, size_t first_length, const uint8_t *second, size_t second_length, struct oatmist_part *part);
 
 #ifdef __cplusplus

@@ -1,127 +1,240 @@
-/* The calls from C, by the header: accepted sheets, refused ones, pairs, and arrays with less room and more.
-   Its last line is 'N passed, 0 failed'. */
+/* The calls by the header, built as C and as C++: accepted sheets, refused ones and pairs, each with arrays lent for the answer that are
+   empty, null, too short, exact and longer. Its last line is 'N passed, 0 failed'. */
 #include "oatmist.h"
 #include <stdio.h>
 #include <string.h>
 
 static int passed, failed;
 
-static void expect(int holds, const char *what) {
+static void expect(int holds, const char *call, const char *what) {
     if (holds) {
         passed++;
     } else {
         failed++;
-        printf("FAILED: %s\n", what);
+        printf("FAILED: %s: %s\n", call, what);
     }
 }
 
+/* ---- sheets ---- */
+
 /* One component with one state and action 0, no transitions, no steps. */
-static const uint8_t sheet[26] = {1, 0, 0, 0, 1, 0, 0, 0, 1, 0, 0, 0, 0, 0, 0, 0, 0, 0, 16, 0, 16, 0, 1, 1, 0x46, 0x53};
+static const uint8_t small[OATMIST_SHORTEST_SHEET] = {1, 0, 0, 0, 1, 0, 0, 0, 1, 0, 0, 0, 0, 0, 0, 0, 0, 0, 16, 0, 16, 0, 1, 1, 0x46, 0x53};
 
-static void accepted(void) {
-    const uint64_t sizes[6] = {0, 1, 1, 16, 16, 77}, some[6] = {0, 1, 1, 77, 77, 77};
-    uint64_t answer[6] = {77, 77, 77, 77, 77, 77};
-    expect(oatmist_check(sheet, 26, answer, 3) == 0 && memcmp(answer, some, sizeof some) == 0, "check, room for three");
-    expect(oatmist_check(sheet, 26, answer, 6) == 0 && memcmp(answer, sizes, sizeof sizes) == 0, "check");
-    uint64_t ends[17], sets[17] = {1};
-    memset(ends, 0xee, sizeof ends);
-    memset(&sets[16], 0xee, sizeof sets[16]);
-    expect(oatmist_end_sets(sheet, 26, ends, 17) == 0 && memcmp(ends, sets, sizeof sets) == 0, "end sets");
-    uint64_t value[1] = {77};
-    expect(oatmist_process(sheet, 26, value, 1) == 0 && value[0] == 0, "process check");
-    uint8_t out[27], after[27];
-    memset(out, 0xee, sizeof out);
-    memset(after, 0xee, sizeof after);
-    expect(oatmist_restate(sheet, 26, out, 25, value, 1) == 13 && value[0] == 0 && memcmp(out, after, 27) == 0, "restate, too short");
-    memcpy(after, sheet, 26);
-    expect(oatmist_restate(sheet, 26, out, 27, value, 1) == 0 && value[0] == 26 && memcmp(out, after, 27) == 0, "restate");
-}
+/* A sheet as a call is given it. */
+struct sheet {
+    const uint8_t *bytes;
+    size_t length;
+};
 
-static void refused(void) {
-    const uint64_t zeros[16] = {0};
-    uint64_t answer[16];
-    uint8_t out[26], after[26];
-    memset(answer, 0xee, sizeof answer);
-    expect(oatmist_check(sheet, 25, answer, 5) == 1 && memcmp(answer, zeros, 40) == 0, "check, refused");
-    memset(answer, 0xee, sizeof answer);
-    expect(oatmist_end_sets(sheet, 25, answer, 16) == 1 && memcmp(answer, zeros, 128) == 0, "end sets, refused");
-    answer[0] = 77;
-    expect(oatmist_process(sheet, 25, answer, 0) == 1 && answer[0] == 77, "process check, refused, no room");
-    memset(out, 0xee, sizeof out);
-    memset(after, 0xee, sizeof after);
-    expect(oatmist_restate(sheet, 0, out, 26, answer, 1) == 1 && answer[0] == 0 && memcmp(out, after, 26) == 0, "restate, refused");
-}
+static const struct sheet smallest = {small, sizeof small}, nothing = {NULL, 0}, cut = {small, 25};
 
-/* Pair of document 01: two components, three actions, and steps by their sets of actions. */
 #define PAIR_STEPS_AT 52
-static size_t pair(uint8_t *bytes, size_t count, const uint8_t *steps) {
+#define PAIR_ROOM 128
+
+/* Pair of document 01 in the lent bytes: two components, three actions, and steps by their sets of actions. */
+static struct sheet pair(uint8_t *bytes, size_t count, const uint8_t *steps) {
     static const uint8_t tables[PAIR_STEPS_AT] = {
         2, 0, 0, 0, 1, 0, 0, 0, 5, 0, 0, 0, 0, 0, 0, 0, 3, 0, 0, 0, 1, 0, 0, 0, 6, 0, 0, 0, 0, 0, 0, 0,
         0, 0, 0, 1, 0, 1, 2, 0, 1, 0, 1, 1, 1, 1, 255, 2, 1, 2, 2, 0};
     static const uint8_t trailer[10] = {0, 0, 32, 0, PAIR_STEPS_AT, 0, 2, 3, 0x46, 0x53};
+    struct sheet made;
     size_t k;
     memcpy(bytes, tables, PAIR_STEPS_AT);
     memset(bytes + PAIR_STEPS_AT, 0, 8 * count);
     for (k = 0; k < count; k++)
         bytes[PAIR_STEPS_AT + 8 * k] = steps[k];
     memcpy(bytes + PAIR_STEPS_AT + 8 * count, trailer, 10);
-    return PAIR_STEPS_AT + 8 * count + 10;
+    made.bytes = bytes;
+    made.length = PAIR_STEPS_AT + 8 * count + 10;
+    return made;
 }
 
-static void figures(void) {
+/* ---- the calls ---- */
+
+enum call { CHECK, END_SETS, PROCESS, FIGURE, STUCK, RESTATE, REPORT, SAME_WORK, WINNER };
+
+static const struct {
+    const char *name;
+    size_t values;
+} calls[] = {{"check", 4},   {"end sets", OATMIST_COMPONENTS}, {"process check", 1}, {"figure", 1}, {"stuck", 1},
+             {"restate", 1}, {"report", 1},                    {"same work", 1},     {"winner", 1}};
+
+#define ANSWER_ROOM 20
+#define OUT_ROOM 200
+static uint64_t answer[ANSWER_ROOM];
+static uint8_t out[OUT_ROOM];
+
+/* Makes a call. Without room the pointer is null where this is asked for. */
+static uint64_t make(enum call call, struct sheet one, struct sheet two, size_t out_room, size_t room, int null) {
+    uint64_t *a = room == 0 && null ? NULL : answer;
+    uint8_t *o = out_room == 0 && null ? NULL : out;
+    switch (call) {
+    case CHECK: return oatmist_check(one.bytes, one.length, a, room);
+    case END_SETS: return oatmist_end_sets(one.bytes, one.length, a, room);
+    case PROCESS: return oatmist_process(one.bytes, one.length, a, room);
+    case FIGURE: return oatmist_figure(one.bytes, one.length, a, room);
+    case STUCK: return oatmist_stuck(one.bytes, one.length, a, room);
+    case RESTATE: return oatmist_restate(one.bytes, one.length, o, out_room, a, room);
+    case REPORT: return oatmist_report(one.bytes, one.length, o, out_room, a, room);
+    case SAME_WORK: return oatmist_same_work(one.bytes, one.length, two.bytes, two.length, a, room);
+    case WINNER: return oatmist_winner(one.bytes, one.length, two.bytes, two.length, a, room);
+    }
+    return 0;
+}
+
+/* A call with arrays of several lengths lent for its answer: what it must return, its values, and what stands at the front of the output
+   then, of which so many bytes are lent. All other entries must keep their values. */
+static void judge(const char *what, enum call call, struct sheet one, struct sheet two, size_t out_room, uint64_t told,
+                  const uint64_t *values, const void *front, size_t front_length) {
+    const size_t count = calls[call].values, rooms[] = {0, 1, count, count + 1, ANSWER_ROOM};
+    size_t k;
+    int null;
+    for (k = 0; k < sizeof rooms / sizeof rooms[0]; k++)
+        for (null = 0; null < 2; null++) {
+            uint64_t answer_due[ANSWER_ROOM];
+            uint8_t out_due[OUT_ROOM];
+            memset(answer, 0xee, sizeof answer);
+            memset(out, 0xee, sizeof out);
+            memcpy(answer_due, answer, sizeof answer);
+            memcpy(out_due, out, sizeof out);
+            if (told == 0) {
+                memcpy(answer_due, values, sizeof values[0] * (count < rooms[k] ? count : rooms[k]));
+                if (front_length > 0)
+                    memcpy(out_due, front, front_length);
+            }
+            expect(make(call, one, two, out_room, rooms[k], null) == told, calls[call].name, what);
+            expect(memcmp(answer, answer_due, sizeof answer) == 0, calls[call].name, what);
+            expect(memcmp(out, out_due, sizeof out) == 0, calls[call].name, what);
+        }
+}
+
+/* One sheet, of which these values are due. */
+static void gives(const char *what, enum call call, struct sheet sheet, const uint64_t *values) {
+    judge(what, call, sheet, nothing, 0, 0, values, NULL, 0);
+}
+
+/* One value. */
+static void gives_one(const char *what, enum call call, struct sheet sheet, uint64_t value) { gives(what, call, sheet, &value); }
+
+/* A sheet that every call but the report refuses like this, whatever is lent, and of which the report is this text. */
+static void refused(const char *what, struct sheet sheet, uint64_t told, const char *text) {
+    const size_t length = strlen(text), rooms[] = {0, 1, 25, 100, OUT_ROOM};
+    const uint64_t values[1] = {length};
+    int call;
+    size_t k;
+    for (call = CHECK; call <= RESTATE; call++)
+        for (k = 0; k < sizeof rooms / sizeof rooms[0]; k++)
+            judge(what, (enum call)call, sheet, nothing, rooms[k], told, NULL, NULL, 0);
+    for (k = 0; k <= length + 1; k++)
+        judge(what, REPORT, sheet, nothing, k, k < length ? OATMIST_REFUSAL_OUTPUT : 0, values, text, length);
+}
+
+/* ---- what is tried ---- */
+
+/* A refusal as it is returned. */
+static uint64_t refusal(uint64_t number, uint64_t sheet, uint64_t step) { return number + 256 * sheet + 65536 * step; }
+
+static void taken_apart(void) {
+    const uint64_t told = refusal(12, 1, 1023);
+    expect(OATMIST_REFUSAL(told) == OATMIST_REFUSAL_NOT_ENABLED, "OATMIST_REFUSAL", "12 of sheet 1 at 1023");
+    expect(OATMIST_SHEET(told) == 1, "OATMIST_SHEET", "12 of sheet 1 at 1023");
+    expect(OATMIST_STEP(told) == 1023, "OATMIST_STEP", "12 of sheet 1 at 1023");
+    expect(OATMIST_REFUSAL(0) == 0 && OATMIST_SHEET(0) == 0 && OATMIST_STEP(0) == 0, "0", "no refusal");
+}
+
+static void accepted(void) {
     static const char text[] = "accepted 4 3 13 0\nstep 0 1\nstep 2\nstep 0\nend 0 1\nend 1 0\n";
-    const uint8_t steps[4] = {1, 2, 4, 1};
-    uint8_t bytes[94], out[sizeof text], after[sizeof text];
-    size_t length = pair(bytes, 4, steps), exact = sizeof text - 1;
-    uint64_t value[2] = {77, 77};
-    expect(oatmist_figure(bytes, length, value, 2) == 0 && value[0] == 13 && value[1] == 77, "figure");
-    expect(oatmist_stuck(bytes, length, value, 1) == 0 && value[0] == 0, "not stuck");
-    expect(oatmist_stuck(sheet, 26, value, 1) == 0 && value[0] == 1, "stuck");
-    memset(out, 0xee, sizeof out);
-    memset(after, 0xee, sizeof after);
-    value[0] = 77;
-    expect(oatmist_report(bytes, length, out, exact - 1, value, 2) == 1 && value[0] == 0 && value[1] == 77, "report, too short");
-    expect(memcmp(out, after, sizeof out) == 0, "report, too short, output");
-    memcpy(after, text, exact);
-    expect(oatmist_report(bytes, length, out, exact, value, 1) == 0 && value[0] == exact && memcmp(out, after, sizeof out) == 0, "report");
-    bytes[PAIR_STEPS_AT + 8] = 1;
-    expect(oatmist_figure(bytes, length, value, 1) == 12 && value[0] == 1, "figure, refused");
-    expect(oatmist_stuck(bytes, length, value, 0) == 12 && value[0] == 1, "stuck, refused, no room");
-    memcpy(after, "refused 12 1\n", 13);
-    memcpy(out, after, sizeof out);
-    memset(out, 0, 13);
-    expect(oatmist_report(bytes, length, out, sizeof out, value, 1) == 0 && value[0] == 13 && memcmp(out, after, sizeof out) == 0, "report, refused");
+    static const char small_text[] = "accepted 0 0 0 1\nend 0 0\n";
+    const uint64_t small_sizes[4] = {1, 1, 16, 16}, sizes[4] = {2, 3, 32, PAIR_STEPS_AT};
+    const uint64_t small_ends[OATMIST_COMPONENTS] = {1}, ends[OATMIST_COMPONENTS] = {2, 1};
+    const uint8_t steps[4] = {1, 2, 4, 1}, packed[3] = {3, 4, 1};
+    uint8_t bytes[PAIR_ROOM], restated_bytes[PAIR_ROOM];
+    const struct sheet sheet = pair(bytes, 4, steps), restated = pair(restated_bytes, 3, packed);
+    const uint64_t text_length = sizeof text - 1, small_length = sizeof small_text - 1, restated_length = restated.length, unchanged = sizeof small;
+    size_t room;
+    gives("smallest", CHECK, smallest, small_sizes);
+    gives("Pair", CHECK, sheet, sizes);
+    gives("smallest", END_SETS, smallest, small_ends);
+    gives("Pair", END_SETS, sheet, ends);
+    gives_one("smallest", PROCESS, smallest, 0);
+    gives_one("Pair", PROCESS, sheet, 1 + 1);
+    gives_one("Pair, restated", PROCESS, restated, 0);
+    gives_one("smallest", FIGURE, smallest, 0);
+    gives_one("Pair", FIGURE, sheet, 13);
+    gives_one("smallest", STUCK, smallest, 1);
+    gives_one("Pair", STUCK, sheet, 0);
+    for (room = 0; room <= sizeof small + 2; room++)
+        judge("smallest", RESTATE, smallest, nothing, room, room < unchanged ? OATMIST_REFUSAL_OUTPUT : 0, &unchanged, small, sizeof small);
+    for (room = 0; room <= restated.length + 2; room++)
+        judge("Pair", RESTATE, sheet, nothing, room, room < restated_length ? OATMIST_REFUSAL_OUTPUT : 0, &restated_length, restated_bytes, restated.length);
+    for (room = 0; room <= sizeof small_text + 2; room++)
+        judge("smallest", REPORT, smallest, nothing, room, room < small_length ? OATMIST_REFUSAL_OUTPUT : 0, &small_length, small_text, sizeof small_text - 1);
+    for (room = 0; room <= sizeof text + 2; room++)
+        judge("Pair", REPORT, sheet, nothing, room, room < text_length ? OATMIST_REFUSAL_OUTPUT : 0, &text_length, text, sizeof text - 1);
+}
+
+static void turned_down(void) {
+    static uint8_t zeros[OATMIST_LONGEST_SHEET + 1];
+    const struct sheet too_long = {zeros, sizeof zeros}, unmarked = {zeros, OATMIST_LONGEST_SHEET};
+    const uint8_t empty[2] = {1, 0}, both[2] = {1, 5}, again[2] = {1, 1};
+    uint8_t bytes[PAIR_ROOM];
+    refused("no bytes", nothing, OATMIST_REFUSAL_LENGTH, "refused 1 0\n");
+    refused("25 bytes", cut, OATMIST_REFUSAL_LENGTH, "refused 1 0\n");
+    refused("16,651 bytes", too_long, OATMIST_REFUSAL_LENGTH, "refused 1 0\n");
+    refused("16,650 bytes", unmarked, OATMIST_REFUSAL_MARK, "refused 2 0\n");
+    refused("an empty step", pair(bytes, 2, empty), refusal(OATMIST_REFUSAL_STEP, 0, 1), "refused 10 1\n");
+    refused("a clash", pair(bytes, 2, both), refusal(OATMIST_REFUSAL_CLASH, 0, 1), "refused 11 1\n");
+    refused("not enabled", pair(bytes, 2, again), refusal(OATMIST_REFUSAL_NOT_ENABLED, 0, 1), "refused 12 1\n");
+}
+
+/* The leaner answer: the part that is due, or an empty one for a refused pair; what it was before does not matter. */
+static void hands_back(const char *what, struct sheet one, struct sheet two, const uint8_t *bytes, size_t length) {
+    struct oatmist_part part = {small, sizeof small}, null = {NULL, 0};
+    oatmist_leaner(one.bytes, one.length, two.bytes, two.length, &part);
+    expect(part.length == length && (bytes == NULL || part.bytes == bytes), "leaner", what);
+    oatmist_leaner(one.bytes, one.length, two.bytes, two.length, &null);
+    expect(null.length == length && (bytes == NULL || null.bytes == bytes), "leaner of a null part", what);
+}
+
+/* Two sheets: whether they do the same work, and which is leaner. */
+static void weighed(const char *what, struct sheet one, struct sheet two, uint64_t same, uint64_t winner, size_t section) {
+    judge(what, SAME_WORK, one, two, 0, 0, &same, NULL, 0);
+    judge(what, WINNER, one, two, 0, 0, &winner, NULL, 0);
+    hands_back(what, one, two, (winner ? two : one).bytes + PAIR_STEPS_AT, section);
+}
+
+/* Two sheets that are refused. */
+static void pair_refused(const char *what, struct sheet one, struct sheet two, uint64_t told) {
+    judge(what, SAME_WORK, one, two, 0, told, NULL, NULL, 0);
+    judge(what, WINNER, one, two, 0, told, NULL, NULL, 0);
+    hands_back(what, one, two, NULL, 0);
 }
 
 static void pairs(void) {
-    const uint8_t one[2] = {1, 2}, two[2] = {2, 1}, three[3] = {1, 2, 4}, faulty[2] = {1, 1};
-    uint8_t first[94], second[94];
-    size_t long_first = pair(first, 3, three), long_second = pair(second, 2, one);
-    struct oatmist_part part = {sheet, 26};
-    uint64_t answer[3] = {77, 77, 77};
-    expect(oatmist_same_work(first, long_first, second, long_second, answer, 3) == 0 && answer[0] == 0 && answer[1] == 0 && answer[2] == 77, "other work");
-    expect(oatmist_winner(first, long_first, second, long_second, answer, 2) == 0 && answer[0] == 1 && answer[1] == 0, "second wins");
-    oatmist_leaner(first, long_first, second, long_second, &part);
-    expect(part.bytes == second + PAIR_STEPS_AT && part.length == 16, "leaner, second");
-    long_first = pair(first, 2, two);
-    expect(oatmist_same_work(first, long_first, second, long_second, answer, 2) == 0 && answer[0] == 1 && answer[1] == 0, "same work");
-    expect(oatmist_winner(first, long_first, second, long_second, answer, 2) == 0 && answer[0] == 0 && answer[1] == 0, "first wins a tie");
-    oatmist_leaner(first, long_first, second, long_second, &part);
-    expect(part.bytes == first + PAIR_STEPS_AT && part.length == 16, "leaner, first");
-    long_second = pair(second, 2, faulty);
-    expect(oatmist_same_work(first, long_first, second, long_second, answer, 2) == 12 && answer[0] == 1 && answer[1] == 1, "same work, second refused");
-    answer[1] = 77;
-    expect(oatmist_winner(second, long_second, first, long_first, answer, 1) == 12 && answer[0] == 1 && answer[1] == 77, "winner, first refused, room for one");
-    oatmist_leaner(first, long_first, second, long_second, &part);
-    expect(part.length == 0, "leaner, refused");
-    expect(oatmist_same_work(first, long_first, sheet, 26, answer, 2) == 14 && answer[0] == 0 && answer[1] == 0, "same work, other tables");
-    expect(oatmist_winner(sheet, 26, first, long_first, answer, 2) == 14 && answer[0] == 0 && answer[1] == 0, "winner, other tables");
+    const uint8_t steps[3] = {1, 2, 4}, turned[2] = {2, 1}, faulty[2] = {1, 1};
+    uint8_t b1[PAIR_ROOM], b2[PAIR_ROOM], b3[PAIR_ROOM], b4[PAIR_ROOM], b5[PAIR_ROOM];
+    const struct sheet three = pair(b1, 3, steps), two = pair(b2, 2, steps), other = pair(b3, 2, turned), none = pair(b4, 0, steps);
+    const struct sheet bad = pair(b5, 2, faulty);
+    weighed("second leaner", three, two, 0, 1, 16);
+    weighed("first leaner", two, three, 0, 0, 16);
+    weighed("a tie", other, two, 1, 0, 16);
+    weighed("a sheet and itself", three, three, 1, 0, 24);
+    weighed("no steps", two, none, 0, 1, 0);
+    pair_refused("second refused", two, bad, refusal(OATMIST_REFUSAL_NOT_ENABLED, 1, 1));
+    pair_refused("first refused", bad, two, refusal(OATMIST_REFUSAL_NOT_ENABLED, 0, 1));
+    pair_refused("both refused", cut, bad, OATMIST_REFUSAL_LENGTH);
+    pair_refused("second cut", two, cut, refusal(OATMIST_REFUSAL_LENGTH, 1, 0));
+    pair_refused("first null", nothing, two, OATMIST_REFUSAL_LENGTH);
+    pair_refused("second null", two, nothing, refusal(OATMIST_REFUSAL_LENGTH, 1, 0));
+    pair_refused("both null", nothing, nothing, OATMIST_REFUSAL_LENGTH);
+    pair_refused("other tables", two, smallest, OATMIST_REFUSAL_TABLES);
+    pair_refused("other tables, turned", smallest, two, OATMIST_REFUSAL_TABLES);
 }
 
 int main(void) {
+    taken_apart();
     accepted();
-    refused();
-    figures();
+    turned_down();
     pairs();
     printf("%d passed, %d failed\n", passed, failed);
     return failed != 0;

@@ -1,7 +1,7 @@
 //! The proved library against the second implementation, on random sheets: the verdict, the sizes,
 //! the end sets, the process check, the restated bytes, the figure, stuck and the printed text; and
-//! on random pairs: same work, which sheet is leaner, and the part that is handed back. Every byte
-//! of what was lent is compared too.
+//! on random pairs: same work, which sheet is leaner, and the part that is handed back. Every entry
+//! of what was lent is compared too: a refused call must leave all of it as it came.
 //!
 //! Usage: compare [SHEETS] [SEED]
 //!
@@ -21,28 +21,39 @@ mod tally;
 use sheets::Dice;
 use tally::{argument, hex, Tally};
 
+// Each call returns 0 where it answered, and its values stand at the front of the answer; else the
+// refusal (see `told`), and everything lent is as it came.
 extern "C" {
-    /// 0 or the refusal's number; the answer is step index, n, m, T, S.
+    /// n, m, T and S.
     fn oatmist_check(sheet: &[u8], answer: &mut [u64]) -> u64;
-    /// 0 or the refusal's number; the end sets of 16 components, bit i for state i.
+    /// The end sets of 16 components, bit i for state i; 0 for a component that is not there.
     fn oatmist_end_sets(sheet: &[u8], ends: &mut [u64]) -> u64;
-    /// 0 and 0 for yes or 1 + the first step that offends; or the refusal's number and index.
+    /// 0 for yes, or 1 + the first step that offends.
     fn oatmist_process(sheet: &[u8], answer: &mut [u64]) -> u64;
-    /// 0 and the bytes written; or the refusal's number, 13 last, and index.
+    /// The bytes written.
     fn oatmist_restate(sheet: &[u8], out: &mut [u8], answer: &mut [u64]) -> u64;
-    /// 0 and the figure; or the refusal's number and index.
+    /// The figure.
     fn oatmist_figure(sheet: &[u8], answer: &mut [u64]) -> u64;
-    /// 0 and 1 for stuck, else 0; or the refusal's number and index.
+    /// 1 for stuck, else 0.
     fn oatmist_stuck(sheet: &[u8], answer: &mut [u64]) -> u64;
-    /// 0 and the length of the text; or 1 and 0 where the output is too short.
+    /// The length of the text; only an output that is too short is refused.
     fn oatmist_report(sheet: &[u8], out: &mut [u8], answer: &mut [u64]) -> u64;
-    /// 0 and 1 for the same work, else 0, and 0; or the refusal's number, index and sheet.
+    /// 1 for the same work, else 0.
     fn oatmist_same_work(first: &[u8], second: &[u8], answer: &mut [u64]) -> u64;
-    /// 0 and 0 for the first or 1 for the second, and 0; or the refusal's number, index and sheet.
+    /// 0 for the first or 1 for the second.
     fn oatmist_winner(first: &[u8], second: &[u8], answer: &mut [u64]) -> u64;
     /// The step section of the leaner sheet, in the caller's own bytes; an empty part where refused.
     fn oatmist_leaner<'a>(first: &'a [u8], second: &'a [u8], part: &mut &'a [u8]);
 }
+
+/// A refusal as a call returns it: its number in bits 0 to 7, the sheet in bits 8 to 15, the step
+/// index from bit 16 on.
+fn told(number: u64, index: usize, sheet: usize) -> u64 {
+    number | (sheet as u64) << 8 | (index as u64) << 16
+}
+
+/// What a call must return, and the values of its answer, none where it is refused.
+type Due = (u64, Vec<u64>);
 
 /// Differing sheets or pairs after which the comparison stops.
 const ENOUGH: u64 = 10;
@@ -52,7 +63,7 @@ const LEAST: u64 = 50;
 const USUAL: u64 = 30_000;
 
 /// One pair for so many sheets.
-const PAIR_SHARE: u64 = 6;
+const PAIR_SHARE: usize = 6;
 
 fn main() {
     let count = argument(1, USUAL);
@@ -70,17 +81,17 @@ fn main() {
         if show(&mut differing, case.kind, &[&case.bytes], &differences) {
             tally.finish()
         }
-    }
-    tally.part("sheets");
-    for number in 0..(count / PAIR_SHARE) as usize {
-        let (first, second, _) = sheets::two_sheets(&mut dice, number);
+        if number % PAIR_SHARE != 0 {
+            continue;
+        }
+        let (first, second, _) = sheets::two_sheets(&mut dice, number / PAIR_SHARE);
         classes.count_pair(&first, &second);
         let differences = compare_pair(&mut tally, &mut dice, &first, &second);
         if show(&mut differing, "pair", &[&first, &second], &differences) {
             tally.finish()
         }
     }
-    tally.part("pairs");
+    tally.part("sheets and pairs");
     // Shorter runs are judged by the share that they have of the usual length.
     let least = LEAST * count.min(USUAL) / USUAL;
     classes.print(&mut tally, least);
@@ -172,11 +183,14 @@ fn lent_sheet(dice: &mut Dice, bytes: &[u8]) -> Lent<u8> {
 // ---------------------------------------------------------------------------------------------
 // One sheet
 
-/// The refusal's number and index, or zeros.
-fn refusal_of(verdict: &Result<plain::Sheet, plain::Refusal>) -> (u64, u64) {
+/// What is due where an accepted sheet gets these values.
+fn due(
+    verdict: &Result<plain::Sheet, plain::Refusal>,
+    values: impl FnOnce(&plain::Sheet) -> Vec<u64>,
+) -> Due {
     match verdict {
-        Ok(_) => (0, 0),
-        Err((number, index)) => (*number, *index as u64),
+        Ok(sheet) => (0, values(sheet)),
+        Err((number, index)) => (told(*number, *index, 0), vec![]),
     }
 }
 
@@ -199,7 +213,15 @@ fn compare(
     differences
 }
 
-/// The calls that answer by a number and some values.
+/// The end sets of an accepted sheet, each as a number, and 0 up to 16.
+fn end_values(sheet: &plain::Sheet) -> Vec<u64> {
+    let bits = |end| plain::members(end).iter().fold(0, |set, state| set | 1 << state);
+    let mut ends: Vec<u64> = sheet.ends.iter().map(bits).collect();
+    ends.resize(16, 0);
+    ends
+}
+
+/// The calls that write nothing but their values. The number is how many values they have.
 fn compare_answers(
     tally: &mut Tally,
     dice: &mut Dice,
@@ -207,80 +229,81 @@ fn compare_answers(
     sheet: &[u8],
     verdict: &Result<plain::Sheet, plain::Refusal>,
 ) {
-    let (number, index) = refusal_of(verdict);
-    let mut sizes = vec![index, 0, 0, 0, 0];
-    let mut ends = vec![0; 16];
-    let (mut process, mut figure, mut stuck) = (vec![index], vec![index], vec![index]);
-    if let Ok(sheet) = verdict {
-        sizes = [0, sheet.n, sheet.m, sheet.t, sheet.s].map(|size| size as u64).to_vec();
-        for (j, end) in sheet.ends.iter().enumerate() {
-            ends[j] = plain::members(end).iter().fold(0, |set, state| set | 1 << state);
-        }
-        process = vec![sheet.process().map_or(0, |offence| 1 + offence as u64)];
-        figure = vec![sheet.figure()];
-        stuck = vec![u64::from(sheet.stuck())];
-    }
     type Call = unsafe extern "C" fn(&[u8], &mut [u64]) -> u64;
-    let calls: [(&str, Call, Vec<u64>); 5] = [
-        ("check", oatmist_check, sizes),
-        ("end sets", oatmist_end_sets, ends),
-        ("process check", oatmist_process, process),
-        ("figure", oatmist_figure, figure),
-        ("stuck", oatmist_stuck, stuck),
+    type Values = fn(&plain::Sheet) -> Vec<u64>;
+    let calls: [(&str, Call, usize, Values); 5] = [
+        ("check", oatmist_check, 4, |sheet| {
+            [sheet.n, sheet.m, sheet.t, sheet.s].map(|size| size as u64).to_vec()
+        }),
+        ("end sets", oatmist_end_sets, 16, end_values),
+        ("process check", oatmist_process, 1, |sheet| {
+            vec![sheet.process().map_or(0, |offence| 1 + offence as u64)]
+        }),
+        ("figure", oatmist_figure, 1, |sheet| vec![sheet.figure()]),
+        ("stuck", oatmist_stuck, 1, |sheet| vec![u64::from(sheet.stuck())]),
     ];
-    for (name, call, values) in calls {
-        let mut answer = lent_answer(dice, values.len());
-        let expected = answer.after(&values);
-        let told = unsafe { call(sheet, answer.part()) };
-        note(
-            tally,
-            differences,
-            told == number && answer.whole == expected,
-            || format!("{name}: {told} {:?}, not {number} {values:?}", answer.part()),
-        );
+    for (name, call, count, values) in calls {
+        let due = due(verdict, values);
+        let answer = lent_answer(dice, count);
+        compare_values(tally, differences, name, &due, answer, |answer| unsafe { call(sheet, answer) });
     }
 }
 
-/// A call that writes to an output of a length: what it must return, its value, and the front of
-/// the output.
-struct Written<'a> {
-    name: &'a str,
-    call: unsafe extern "C" fn(&[u8], &mut [u8], &mut [u64]) -> u64,
-    number: u64,
-    value: u64,
-    front: &'a [u8],
+/// One call, with an array lent for its values.
+fn compare_values(
+    tally: &mut Tally,
+    differences: &mut Vec<String>,
+    name: &str,
+    (number, values): &Due,
+    mut answer: Lent<u64>,
+    call: impl FnOnce(&mut [u64]) -> u64,
+) {
+    let expected = answer.after(values);
+    let told = call(answer.part());
+    note(tally, differences, told == *number && answer.whole == expected, || {
+        let kept = if values.is_empty() { " and the array as it came" } else { "" };
+        format!("{name}: {told:#x} {:?}, not {number:#x} {values:?}{kept}", answer.read())
+    });
 }
 
+type Writer = unsafe extern "C" fn(&[u8], &mut [u8], &mut [u64]) -> u64;
+
+/// A call that also writes to an output of a length. Where it answers, these bytes stand at the
+/// front of the output, and their number is its value.
 fn compare_written(
     tally: &mut Tally,
     dice: &mut Dice,
     differences: &mut Vec<String>,
+    (name, call): (&str, Writer),
     sheet: &[u8],
     length: usize,
-    written: &Written,
+    written: Result<&[u8], u64>,
 ) {
-    let Written { name, call, number, value, front } = *written;
+    let name = format!("{name} into {length}");
     let mut out = Lent::new(dice, length, any_byte);
-    let mut answer = lent_answer(dice, 1);
-    let (expected_out, expected) = (out.after(front), answer.after(&[value]));
-    let told = unsafe { call(sheet, out.part(), answer.part()) };
-    note(
-        tally,
-        differences,
-        told == number && answer.whole == expected,
-        || format!("{name} into {length}: {told} {:?}, not {number} {value}", answer.part()),
-    );
-    note(tally, differences, out.whole == expected_out, || {
-        let at = (0..expected_out.len())
-            .find(|&i| out.whole[i] != expected_out[i])
-            .unwrap_or(0);
-        format!(
-            "{name} into {length}: byte {} of the lent part is {:02x}, not {:02x}",
-            at as i64 - out.start as i64,
-            out.whole[at],
-            expected_out[at]
-        )
+    let expected = out.after(written.unwrap_or(&[]));
+    let due = match written {
+        Ok(front) => (0, vec![front.len() as u64]),
+        Err(number) => (number, vec![]),
+    };
+    let answer = lent_answer(dice, 1);
+    compare_values(tally, differences, &name, &due, answer, |answer| unsafe {
+        call(sheet, out.part(), answer)
     });
+    note(tally, differences, out.whole == expected, || {
+        let at = (0..expected.len()).find(|&i| out.whole[i] != expected[i]).unwrap_or(0);
+        let place = at as i64 - out.start as i64;
+        format!("{name}: byte {place} of the lent part is {:02x}, not {:02x}", out.whole[at], expected[at])
+    });
+}
+
+/// What is due where so many bytes are lent for these.
+fn fitted(bytes: &[u8], length: usize) -> Result<&[u8], u64> {
+    if length < bytes.len() {
+        Err(told(13, 0, 0))
+    } else {
+        Ok(bytes)
+    }
 }
 
 fn compare_restated(
@@ -290,18 +313,17 @@ fn compare_restated(
     sheet: &[u8],
     verdict: &Result<plain::Sheet, plain::Refusal>,
 ) {
-    let (number, index) = refusal_of(verdict);
-    let restated = verdict.as_ref().ok().map(|sheet| sheet.restated());
-    let exact = restated.as_ref().map(|out| out.len());
+    let restated = match verdict {
+        Ok(sheet) => Ok(sheet.restated()),
+        Err((number, index)) => Err(told(*number, *index, 0)),
+    };
+    let exact = restated.as_ref().ok().map(|out| out.len());
     for length in buffer_lengths(dice, sheet.len(), exact) {
-        let (number, value, front): (u64, u64, &[u8]) = match &restated {
-            None => (number, index, &[]),
-            Some(out) if length < out.len() => (13, 0, &[]),
-            Some(out) => (0, out.len() as u64, out),
+        let written = match &restated {
+            Ok(out) => fitted(out, length),
+            Err(number) => Err(*number),
         };
-        let (name, call) = ("restate", oatmist_restate as _);
-        let written = Written { name, call, number, value, front };
-        compare_written(tally, dice, differences, sheet, length, &written);
+        compare_written(tally, dice, differences, ("restate", oatmist_restate), sheet, length, written);
     }
 }
 
@@ -314,14 +336,8 @@ fn compare_report(
 ) {
     let text = plain::report_of(verdict);
     for length in buffer_lengths(dice, sheet.len(), Some(text.len())) {
-        let (number, value, front): (u64, u64, &[u8]) = if length < text.len() {
-            (1, 0, &[])
-        } else {
-            (0, text.len() as u64, text.as_bytes())
-        };
-        let (name, call) = ("report", oatmist_report as _);
-        let written = Written { name, call, number, value, front };
-        compare_written(tally, dice, differences, sheet, length, &written);
+        let written = fitted(text.as_bytes(), length);
+        compare_written(tally, dice, differences, ("report", oatmist_report), sheet, length, written);
     }
 }
 
@@ -368,19 +384,14 @@ fn compare_pair(tally: &mut Tally, dice: &mut Dice, first: &[u8], second: &[u8])
         ("winner", oatmist_winner, which),
     ];
     for (name, call, asked) in calls {
-        let (number, values) = match asked {
-            Ok(value) => (0, [value, 0]),
-            Err(refusal) => (refusal.number, [refusal.index, refusal.which].map(|x| x as u64)),
+        let due = match asked {
+            Ok(value) => (0, vec![value]),
+            Err(refusal) => (told(refusal.number, refusal.index, refusal.which), vec![]),
         };
-        let mut answer = lent_answer(dice, 2);
-        let expected = answer.after(&values);
-        let told = unsafe { call(first, second, answer.part()) };
-        note(
-            tally,
-            &mut differences,
-            told == number && answer.whole == expected,
-            || format!("{name}: {told} {:?}, not {number} {values:?}", answer.part()),
-        );
+        let answer = lent_answer(dice, 1);
+        compare_values(tally, &mut differences, name, &due, answer, |answer| unsafe {
+            call(first, second, answer)
+        });
     }
 
     // The part is the very bytes of a sheet; that of a refused pair is empty, at a place of either.
@@ -414,7 +425,7 @@ fn compare_pair(tally: &mut Tally, dice: &mut Dice, first: &[u8], second: &[u8])
     differences
 }
 
-/// The restated bytes by the library, or the refusal's number.
+/// The restated bytes by the library, or what it returned.
 fn restated_by_library(sheet: &[u8]) -> Result<Vec<u8>, u64> {
     let mut out = vec![0xee; 16_650];
     let mut answer = [0];

@@ -8,16 +8,16 @@ fn bug(name: &str) -> bool {
     std::env::var("OATMIST_BUG").is_ok_and(|chosen| chosen == name)
 }
 
-/// The verdict, with the index as a number.
-fn verdict(sheet: &[u8]) -> Result<plain::Sheet, (u64, u64)> {
+/// The verdict.
+fn verdict(sheet: &[u8]) -> Result<plain::Sheet, plain::Refusal> {
     plain::verdict(sheet).map_err(|(number, index)| {
         let late = bug("index-off-by-one") && number == 12;
-        (number, index as u64 + if late { 1 } else { 0 })
+        (number, index + usize::from(late))
     })
 }
 
-/// Copies as many of the values as there is room for.
-fn fill(values: &[u64], out: &mut [u64]) {
+/// Copies as many of the values as there is room for; 0 is to be returned.
+fn answered(values: &[u64], out: &mut [u64]) -> u64 {
     let mut count = values.len().min(out.len());
     if bug("short-answer-left") && out.len() < values.len() {
         count = 0;
@@ -26,26 +26,50 @@ fn fill(values: &[u64], out: &mut [u64]) {
     if bug("long-answer-cleared") {
         out[count..].fill(0);
     }
+    u64::from(bug("answered-with-one"))
+}
+
+/// What is to be returned for a refusal; the answer stays as it is.
+fn refused((number, index): plain::Refusal, sheet: usize, answer: &mut [u64]) -> u64 {
+    if bug("refused-answer-cleared") {
+        answer.fill(0);
+    }
+    if bug("index-in-answer") && !answer.is_empty() && index > 0 {
+        answer[0] = index as u64;
+    }
+    let (mut index, mut sheet) = (index as u64, sheet as u64);
+    if bug("index-left-out") {
+        index = 0;
+    }
+    if bug("second-told-as-first") {
+        sheet = 0;
+    }
+    if bug("index-and-sheet-change-places") {
+        return number | index << 8 | sheet << 16;
+    }
+    number | sheet << 8 | index << 16
+}
+
+/// A refusal for an output that is too short.
+fn too_short(answer: &mut [u64]) -> u64 {
+    if bug("short-output-tells-nothing-written") && !answer.is_empty() {
+        answer[0] = 0;
+    }
+    refused((13, 0), 0, answer)
 }
 
 #[no_mangle]
 pub extern "C" fn oatmist_check(sheet: &[u8], answer: &mut [u64]) -> u64 {
     match verdict(sheet) {
         Ok(sheet) => {
-            let mut values = [0, sheet.n, sheet.m, sheet.t, sheet.s].map(|value| value as u64);
+            let mut values = [sheet.n, sheet.m, sheet.t, sheet.s].map(|value| value as u64);
             if bug("steps-for-offset") {
-                values[4] = sheet.steps.len() as u64;
+                values[3] = sheet.steps.len() as u64;
             }
-            fill(&values, answer);
-            0
+            answered(&values, answer)
         }
-        Err((number, index)) => {
-            fill(&[index, 0, 0, 0, 0], answer);
-            if bug("refusal-one-less") && number == 8 {
-                return 7;
-            }
-            number
-        }
+        Err((8, index)) if bug("refusal-one-less") => refused((7, index), 0, answer),
+        Err(refusal) => refused(refusal, 0, answer),
     }
 }
 
@@ -69,26 +93,27 @@ fn ends_closed_at_start(sheet: &plain::Sheet) -> Vec<plain::Set> {
 pub extern "C" fn oatmist_end_sets(sheet: &[u8], out: &mut [u64]) -> u64 {
     let mut ends = [0; 16];
     if bug("ends-not-cleared") {
-        fill(out, &mut ends);
+        let count = out.len().min(16);
+        ends[..count].copy_from_slice(&out[..count]);
     }
-    let number = match verdict(sheet) {
-        Ok(sheet) => {
-            let sets = if bug("closure-at-start") {
-                ends_closed_at_start(&sheet)
-            } else {
-                sheet.ends
-            };
-            for (j, set) in sets.iter().enumerate() {
-                ends[j] = plain::members(set)
-                    .iter()
-                    .fold(0, |bits, state| bits | 1 << state);
+    let sheet = match verdict(sheet) {
+        Ok(sheet) => sheet,
+        Err(refusal) => {
+            if bug("refused-ends-cleared") {
+                out.fill(0);
             }
-            0
+            return refused(refusal, 0, out);
         }
-        Err((number, _)) => number,
     };
-    fill(&ends, out);
-    number
+    let sets = if bug("closure-at-start") {
+        ends_closed_at_start(&sheet)
+    } else {
+        sheet.ends
+    };
+    for (j, set) in sets.iter().enumerate() {
+        ends[j] = plain::members(set).iter().fold(0, |bits, state| bits | 1 << state);
+    }
+    answered(&ends, out)
 }
 
 #[no_mangle]
@@ -100,13 +125,9 @@ pub extern "C" fn oatmist_process(sheet: &[u8], answer: &mut [u64]) -> u64 {
                 Some(index) if bug("process-index") => index as u64,
                 Some(index) => 1 + index as u64,
             };
-            fill(&[value], answer);
-            0
+            answered(&[value], answer)
         }
-        Err((number, index)) => {
-            fill(&[index], answer);
-            number
-        }
+        Err(refusal) => refused(refusal, 0, answer),
     }
 }
 
@@ -149,17 +170,15 @@ fn restated(bytes: &[u8], sheet: &plain::Sheet) -> Vec<u8> {
 #[no_mangle]
 pub extern "C" fn oatmist_restate(sheet: &[u8], out: &mut [u8], answer: &mut [u64]) -> u64 {
     if bug("13-before-looking") && out.len() < sheet.len() {
-        fill(&[0], answer);
-        return 13;
+        return too_short(answer);
     }
     let read = match verdict(sheet) {
         Ok(read) => read,
-        Err((number, index)) => {
+        Err(refusal) => {
             if bug("refused-call-writes") && !out.is_empty() {
                 out[0] = !out[0];
             }
-            fill(&[index], answer);
-            return number;
+            return refused(refusal, 0, answer);
         }
     };
     let restated = restated(sheet, &read);
@@ -169,8 +188,7 @@ pub extern "C" fn oatmist_restate(sheet: &[u8], out: &mut [u8], answer: &mut [u6
             let length = out.len();
             out.copy_from_slice(&restated[..length]);
         }
-        fill(&[0], answer);
-        return 13;
+        return too_short(answer);
     }
     out[..restated.len()].copy_from_slice(&restated);
     if bug("byte-behind-end") && out.len() > restated.len() {
@@ -179,8 +197,7 @@ pub extern "C" fn oatmist_restate(sheet: &[u8], out: &mut [u8], answer: &mut [u6
     if bug("rest-cleared") {
         out[restated.len()..].fill(0);
     }
-    fill(&[restated.len() as u64], answer);
-    0
+    answered(&[restated.len() as u64], answer)
 }
 
 #[no_mangle]
@@ -195,13 +212,9 @@ pub extern "C" fn oatmist_figure(sheet: &[u8], answer: &mut [u64]) -> u64 {
                 }
                 _ => sheet.figure(),
             };
-            fill(&[value], answer);
-            0
+            answered(&[value], answer)
         }
-        Err((number, index)) => {
-            fill(&[index], answer);
-            number
-        }
+        Err(refusal) => refused(refusal, 0, answer),
     }
 }
 
@@ -212,13 +225,9 @@ pub extern "C" fn oatmist_stuck(sheet: &[u8], answer: &mut [u64]) -> u64 {
             if bug("stuck-at-start") {
                 sheet.ends = plain::start(&sheet.components);
             }
-            fill(&[u64::from(sheet.stuck())], answer);
-            0
+            answered(&[u64::from(sheet.stuck())], answer)
         }
-        Err((number, index)) => {
-            fill(&[index], answer);
-            number
-        }
+        Err(refusal) => refused(refusal, 0, answer),
     }
 }
 
@@ -234,25 +243,24 @@ pub extern "C" fn oatmist_report(sheet: &[u8], out: &mut [u8], answer: &mut [u64
             let length = out.len();
             out.copy_from_slice(&text.as_bytes()[..length]);
         }
-        fill(&[0], answer);
-        return 1;
+        if bug("short-report-told-as-1") {
+            return 1;
+        }
+        return too_short(answer);
     }
     out[..text.len()].copy_from_slice(text.as_bytes());
     if bug("report-ends-in-zero") && out.len() > text.len() {
         out[text.len()] = 0;
     }
-    fill(&[text.len() as u64], answer);
-    0
+    if bug("refused-sheet-not-reported") && text.starts_with("refused") {
+        return refused(plain::verdict(sheet).err().unwrap(), 0, answer);
+    }
+    answered(&[text.len() as u64], answer)
 }
 
-/// The refusal of a pair into the answer.
-fn fill_refusal(refusal: plain::PairRefusal, answer: &mut [u64]) -> u64 {
-    let mut which = refusal.which as u64;
-    if bug("second-told-as-first") {
-        which = 0;
-    }
-    fill(&[refusal.index as u64, which], answer);
-    refusal.number
+/// The refusal of a pair.
+fn pair_refused(refusal: plain::PairRefusal, answer: &mut [u64]) -> u64 {
+    refused((refusal.number, refusal.index), refusal.which, answer)
 }
 
 /// The flat list of a sheet, or as the bug has it only its actions.
@@ -276,10 +284,12 @@ pub extern "C" fn oatmist_same_work(first: &[u8], second: &[u8], answer: &mut [u
             if bug("work-of-same-bytes") {
                 same = first == second;
             }
-            fill(&[u64::from(same), 0], answer);
-            0
+            if bug("two-values-of-a-pair") {
+                return answered(&[u64::from(same), 0], answer);
+            }
+            answered(&[u64::from(same)], answer)
         }
-        Err(refusal) => fill_refusal(refusal, answer),
+        Err(refusal) => pair_refused(refusal, answer),
     }
 }
 
@@ -289,10 +299,9 @@ pub extern "C" fn oatmist_winner(first: &[u8], second: &[u8], answer: &mut [u64]
         Ok((which, _)) => {
             let swapped = plain::leaner(second, first).unwrap().0;
             let tie = swapped == which;
-            fill(&[if bug("tie-to-second") && tie { 1 } else { which as u64 }, 0], answer);
-            0
+            answered(&[if bug("tie-to-second") && tie { 1 } else { which as u64 }], answer)
         }
-        Err(refusal) => fill_refusal(refusal, answer),
+        Err(refusal) => pair_refused(refusal, answer),
     }
 }
 

@@ -26,7 +26,7 @@ use Rattle.sheet.specs.Limits.{InLimits}
 use Rattle.sheet.specs.Verdict.{Verdict, verdict, Accepted}
 use Rattle.sheet.proofs.Limits.{limits-order}
 use Rattle.sheet.proofs.Verdicts.{verdict-first, verdict-only, accepted-exact}
-use Rattle.answers.specs.Answers.{given, after}
+use Rattle.answers.specs.Outcomes.{given, after}
 use Rattle.answers.specs.EndSets.{endSet, endSets}
 use Rattle.answers.specs.Restated.{restated}
 use Rattle.traces.specs.Offences.{firstOffence}
@@ -34,10 +34,10 @@ use Rattle.answers.specs.ProcessCheck.{processCheck}
 use Rattle.answers.specs.Demands.{Demand1, Demand2, Demand3, Answers}
 use Rattle.answers.proofs.Normal.{normal-ends, normal-process}
 use Rattle.answers.proofs.Restated.{accepted-limits, accepted-order, accepted-fine, restated-same-tables, restated-read-steps, restated-is-accepted, restated-are-bytes}
-use Rattle.answers.proofs.Answers.{refused-first, refused-short, given-long, refused-kept, given-written, given-behind}
+use Rattle.answers.proofs.LentOutput.{refused-first, refused-short, given-long, refused-kept, given-written, given-behind}
 use Rattle.answers.proofs.Relations.{related-self, related-same, same-related, restated-same-front, restated-relation, fewest, restated-twice, process-own}
 use Rattle.traces.proofs.Offences.{offence-none, offence-first}
-use Rattle.answers.proofs.PairAnswers.{pair-first, pair-second, pair-apart, work-same, work-other}
+use Rattle.answers.proofs.TwoSheets.{pair-first, pair-second, pair-apart, work-same, work-other}
 use Rattle.answers.proofs.Leaner.{winner-first, winner-second, leaner-first, leaner-second, leaner-refused, section-whole}
 use Rattle.answers.proofs.Figure.{figure-rounds, figure-none}
 use Rattle.answers.proofs.Stuck.{stuck-exact}

@@ -14,10 +14,10 @@ use Rattle.sheet.specs.Verdict.{Accepted}
 use Rattle.sheet.proofs.RoundTrip.{sections-joined}
 use Rattle.answers.specs.Related.{SameTables}
 use Rattle.answers.specs.Restated.{restatedSteps}
-use Rattle.answers.specs.Pairs.{given, refused}
+use Rattle.answers.specs.Outcomes.{given, refused}
 use Rattle.answers.specs.Leaner.{winner, stepSection, leaner}
 use Rattle.answers.proofs.Restated.{accepted-limits}
-use Rattle.answers.proofs.PairAnswers.{pair-given}
+use Rattle.answers.proofs.TwoSheets.{pair-given}
 
 -- the second sheet wins exactly when the test holds
 abbrev won : Bool → ℕ

@@ -1,8 +1,10 @@
 pub mod Normal
 pub mod Restated
-pub mod Answers
+pub mod Passing
+pub mod Told
+pub mod LentOutput
 pub mod Relations
-pub mod PairAnswers
+pub mod TwoSheets
 pub mod Leaner
 pub mod Figure
 pub mod Stuck

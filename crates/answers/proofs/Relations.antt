@@ -1,6 +1,6 @@
 -- Related sheets have the same tables, and the restated sheet is related to its sheet and to no other normal form.
 -- Assumes nothing.
-use mathlib.Core.Path.{_≡_, refl, sym, ap, ap₂, _∙_, subst}
+use mathlib.Core.Path.{_≡_, refl, sym, ap, ap₂, _∙_}
 use mathlib.Core.Option.{none}
 use mathlib.Core.List.{List, map, List·Memᴰ}
 use Prim.Native.Nat.{ℕ, _^_, _<_, _≤_}
@@ -35,27 +35,8 @@ same-tables {b} {c} s =
 pub tables-self : (b : List ℕ) → SameTables b b
 tables-self b = record { same-front = refl; same-steps-at = refl; same-components = refl; same-actions = refl }
 
-tables-sym : {b c : List ℕ} → SameTables b c → SameTables c b
-tables-sym s =
-    record {
-      same-front = sym (s .same-front);
-      same-steps-at = sym (s .same-steps-at);
-      same-components = sym (s .same-components);
-      same-actions = sym (s .same-actions);
-    }
-
 pub related-self : (b : List ℕ) → Accepted b → RelatedSheets b b
 related-self b acc = record { first-accepted = acc; second-accepted = acc; same-tables = tables-self b; swaps = Related.none }
-
-pub sheets-sym : {b c : List ℕ} → RelatedSheets b c → RelatedSheets c b
-sheets-sym {b} {c} r =
-    record {
-      first-accepted = r .second-accepted;
-      second-accepted = r .first-accepted;
-      same-tables = tables-sym (r .same-tables);
-      swaps = subst (λ (T : Tables). Related (dependent T) (flat (steps c)) (flat (steps b))) (same-tables (r .same-tables))
-          (related-sym (dependent (tables b)) (dependent-laws (tables b)) (r .swaps));
-    }
 
 sheet-cong : {f g xs ys : List ℕ} {n k m l : ℕ} → f ≡ g → n ≡ k → m ≡ l → xs ≡ ys → sheetOf f n m xs ≡ sheetOf g k l ys
 sheet-cong p q r s = λ i. sheetOf (p i) (q i) (r i) (s i)

@@ -1,10 +1,11 @@
-pub mod Answers
+pub mod Outcomes
+pub mod LentOutput
 pub mod EndSets
 pub mod Restated
 pub mod Related
 pub mod Restating
 pub mod ProcessCheck
-pub mod Pairs
+pub mod TwoSheets
 pub mod SameWork
 pub mod Leaner
 pub mod Figure

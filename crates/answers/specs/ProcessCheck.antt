@@ -1,4 +1,4 @@
--- The process check: "after refusals 1 to 12, answers yes, or the index (from 0) of the first step that offends".
+-- The process check of an accepted sheet: yes, or the first step that offends against the process condition (document 01, the restated sheet).
 -- Assumes nothing.
 use mathlib.Core.List.{List, map}
 use mathlib.Core.Option.{Option}
@@ -8,8 +8,8 @@ use Rattle.systems.specs.Independence.{dependent}
 use Rattle.sheet.specs.Layout.{tables, steps}
 use Rattle.sheet.specs.Verdict.{verdict}
 use Rattle.traces.specs.Offences.{firstOffence}
-use Rattle.answers.specs.Answers.{Answer, given, after}
+use Rattle.answers.specs.Outcomes.{Outcome, given, after}
 
 -- the first step that offends; none is yes
-unfoldable pub processCheck : List ℕ → Answer (Option ℕ)
+unfoldable pub processCheck : List ℕ → Outcome (Option ℕ)
 processCheck b = after (verdict b) (given (firstOffence (dependent (tables b)) (map members (steps b))))

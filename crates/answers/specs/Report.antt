@@ -1,7 +1,6 @@
--- The whole text that the program prints for a sheet, byte for byte: "in decimal, one space between the parts of a line and a line
--- feed after each line".
+-- The whole text that the program prints for a sheet, byte for byte (document 01, around the restated sheet). A line is a word and numbers in
+-- decimal, each behind one space, and ends in a line feed.
 -- Assumes nothing.
-use mathlib.Core.Bool.{Bool, true, false}
 use mathlib.Core.List.{List, [], _∷_, _++_, map}
 use Prim.Native.Nat.{ℕ, zero, suc, _+_, _/_, _%_}
 use lib.ListN.{length}
@@ -9,6 +8,8 @@ use Rattle.sets.specs.Lists.{concat, below}
 use Rattle.sets.specs.Bits.{members}
 use Rattle.sheet.specs.Layout.{componentCount, stepCount}
 use Rattle.sheet.specs.Verdict.{Verdict, accepted, refused, verdict}
+use Rattle.answers.specs.Outcomes.{Outcome, bit}
+use Rattle.answers.specs.LentOutput.{fitting, outputBy}
 use Rattle.answers.specs.EndSets.{endSet}
 use Rattle.answers.specs.Restated.{restatedSteps}
 use Rattle.answers.specs.Figure.{figure}
@@ -25,7 +26,7 @@ abbrev pub decimal : ℕ → List ℕ
 decimal zero = 48 ∷ []
 decimal (suc x) = digitsBefore 20 (suc x) []
 
--- "accepted", "refused", "step", "end"
+-- the words accepted, refused, step and end
 abbrev pub acceptedWord : List ℕ
 acceptedWord = 97 ∷ 99 ∷ 99 ∷ 101 ∷ 112 ∷ 116 ∷ 101 ∷ 100 ∷ []
 
@@ -46,19 +47,15 @@ part x = 32 ∷ decimal x
 abbrev pub line : List ℕ → List ℕ → List ℕ
 line word xs = word ++ (concat (map part xs) ++ (10 ∷ []))
 
-abbrev pub one : Bool → ℕ
-one true = 1
-one false = 0
-
--- "`accepted K C F D` (steps in the sheet, restated steps, figure, 1 if stuck else 0)"
+-- the first line of an accepted sheet, K C F D: its steps, its restated steps, the figure, and 1 for stuck or 0
 unfoldable pub summaryLine : List ℕ → List ℕ
-summaryLine b = line acceptedWord (stepCount b ∷ length (restatedSteps b) ∷ figure b ∷ one (stuck b) ∷ [])
+summaryLine b = line acceptedWord (stepCount b ∷ length (restatedSteps b) ∷ figure b ∷ bit (stuck b) ∷ [])
 
--- "a line `step` with the rising actions for each restated step"
+-- a line for each restated step, with its actions, rising
 unfoldable pub stepLines : List ℕ → List ℕ
 stepLines b = concat (map (λ x. line stepWord (members x)) (restatedSteps b))
 
--- "for each component `end j` with its rising states"
+-- a line for each component: its index and the states of its end set, rising
 unfoldable pub endLines : List ℕ → List ℕ
 endLines b = concat (map (λ j. line endWord (j ∷ members (endSet b j))) (below (componentCount b)))
 
@@ -66,6 +63,14 @@ abbrev pub reportBy : Verdict → List ℕ → List ℕ
 reportBy (refused k i) text = line refusedWord (k ∷ i ∷ [])
 reportBy accepted text = text
 
--- "Refused: `refused R P`, number and step index. Accepted: .."
+-- one line with number and step index for a refused sheet; the three kinds of lines for an accepted one
 unfoldable pub report : List ℕ → List ℕ
 report b = reportBy (verdict b) (summaryLine b ++ (stepLines b ++ endLines b))
+
+-- how many bytes are printed for the sheet b into an output of `size` bytes, or 13
+unfoldable pub reporting : List ℕ → ℕ → Outcome ℕ
+reporting b size = fitting (report b) size
+
+-- the output afterwards
+unfoldable pub reportOutput : List ℕ → List ℕ → List ℕ
+reportOutput b out = outputBy (reporting b (length out)) (report b) out

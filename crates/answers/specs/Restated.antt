@@ -1,4 +1,5 @@
--- The restated sheet: "the same records and transitions, the related steps that meet the process condition, and a trailer to fit".
+-- The restated sheet: the bytes before S as they are, the steps of the normal form, and a trailer for these (document 01, the restated sheet).
+-- That no other accepted sheet is related and meets the process condition is a theorem, `restated-only`.
 -- Assumes nothing.
 use mathlib.Core.List.{List, map}
 use Prim.Native.Nat.{ℕ}

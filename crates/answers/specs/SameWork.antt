@@ -1,11 +1,13 @@
--- "Same work: yes exactly when two sheets are related." That the definition says this is a theorem.
+-- Same work: whether two accepted sheets over the same tables have the same restated steps. That these are the related ones is a theorem,
+-- `same-exactly` (document 01, around the restated sheet).
 -- Assumes nothing.
 use mathlib.Core.Bool.{Bool}
 use mathlib.Core.List.{List}
 use Prim.Native.Nat.{ℕ}
 use Rattle.sheet.specs.Refusals.{sameBytes}
 use Rattle.answers.specs.Restated.{restatedSteps}
-use Rattle.answers.specs.Pairs.{PairAnswer, ofPair}
+use Rattle.answers.specs.Outcomes.{Outcome}
+use Rattle.answers.specs.TwoSheets.{ofPair}
 
-unfoldable pub sameWork : List ℕ → List ℕ → PairAnswer Bool
+unfoldable pub sameWork : List ℕ → List ℕ → Outcome Bool
 sameWork b c = ofPair b c (sameBytes (restatedSteps b) (restatedSteps c))

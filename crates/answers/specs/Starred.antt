@@ -13,16 +13,16 @@ use Rattle.answers.specs.Restated.{restated}
 use Rattle.answers.specs.Pair.{pairSheet}
 
 -- restated as these steps, with the end sets of components 0 and 1; or refused, with number and step index
-pub data Outcome : Type 0 where
-  becomes : List ℕ → ℕ → ℕ → Outcome
-  refusedBy : ℕ → ℕ → Outcome
+pub data Due : Type 0 where
+  becomes : List ℕ → ℕ → ℕ → Due
+  refusedBy : ℕ → ℕ → Due
 
 pub record Case : Type 0 where
   pub given : List ℕ
-  pub outcome : Outcome
+  pub due : Due
 
-abbrev pub case : List ℕ → Outcome → Case
-case xs o = record { given = xs; outcome = o }
+abbrev pub case : List ℕ → Due → Case
+case xs o = record { given = xs; due = o }
 
 abbrev pub starred : List Case
 starred =
@@ -53,13 +53,13 @@ isRefusedBy accepted k i = false
 isRefusedBy (refused r p) k i = eqb r k && eqb p i
 
 -- the case comes out as the table says
-abbrev pub holdsFor : List ℕ → Outcome → Bool
+abbrev pub holdsFor : List ℕ → Due → Bool
 holdsFor b (becomes ys e₀ e₁) =
     isAccepted (verdict b) && sameBytes (restated b) (pairSheet ys) && eqb (endSet b 0) e₀ && eqb (endSet b 1) e₁
 holdsFor b (refusedBy k i) = isRefusedBy (verdict b) k i
 
 abbrev pub holds : Case → Bool
-holds c = holdsFor (pairSheet (c .given)) (c .outcome)
+holds c = holdsFor (pairSheet (c .given)) (c .due)
 
 -- the worked example: "With the steps {0} {1} {2} {0}"
 abbrev pub workedSheet : List ℕ

@@ -1,1 +1,29 @@
-// What each answer of the desk is to be, and the demands, proved of the definitions. Theory alone.
+// What the calls answer: one enum for all of them. What each call is to answer stands in specs/.
+ghost use mathlib.Core.Path.{_≡_};
+ghost use Rattle.answers.specs.Outcomes.{bit};
+
+// The numbers that the trailer of a sheet tells: n components, m actions, where the transitions begin, and where the steps begin.
+pub struct Sizes {
+    pub n: usize,
+    pub m: usize,
+    pub t: usize,
+    pub s: usize,
+}
+
+// The sizes of an accepted sheet, the number that was asked for, or the refusal: its number, its step index, and its sheet where two are given.
+pub enum Answer {
+    Accepted(Sizes),
+    Given(u64),
+    Refused {
+        number: u64,
+        index: usize,
+        sheet: u64,
+    },
+}
+
+// 1 for yes, 0 for no.
+pub fn bit(b: bool) -> u64
+    ensures { λ r. ⌜ r ≡ bit b ⌝ }
+{
+    if b { 1 } else { 0 }
+}

@@ -1,75 +1,88 @@
 -- What the calls on two sheets answer: of a pair that passed what was asked for, else the refusal of the pair.
 -- Assumes nothing.
-use mathlib.Core.Path.{_≡_, sym, ap, _∙_}
+use mathlib.Core.Path.{_≡_, refl, sym, ap, _∙_}
 use mathlib.Core.Bool.{Bool, true, false, cond}
-use mathlib.Core.List.{List, []}
+use mathlib.Core.List.{List, [], _∷_}
 use Prim.Native.Nat.{ℕ}
 use lib.Dec.{ltb}
 use lib.ListN.{length}
 use Rattle.sheet.specs.Refusals.{sameBytes}
+use Rattle.answers.specs.declared.Sizes.{Sizes}
+use Rattle.answers.specs.declared.Answer.{Answer}
 use Rattle.answers.specs.Restated.{restatedSteps}
-use Rattle.answers.specs.Pairs.{given, refused, ofPair}
+use Rattle.answers.specs.Outcomes.{given, refused, values, single, bit, outcomeOf, sizesOf}
+use Rattle.answers.specs.TwoSheets.{ofPair}
 use Rattle.answers.specs.SameWork.{sameWork}
-use Rattle.answers.specs.Leaner.{winner, stepSection, leaner}
-use Rattle.answers.proofs.PairAnswers.{pair-given}
+use Rattle.answers.specs.Leaner.{winner, stepSection}
+use Rattle.answers.proofs.Passing.{NotAccepted}
+use Rattle.answers.proofs.TwoSheets.{pair-given}
 use Rattle.answers.proofs.Leaner.{leaner-first, leaner-second, leaner-refused}
-use Rattle.comparing.specs.declared.pairs.Pair.{Pair}
-use Rattle.comparing.specs.declared.pairs.Pair.the-variants.{Sound, Refused as pairRefused}
-use Rattle.comparing.specs.declared.Work.{Work}
-use Rattle.comparing.specs.declared.Lean.{Lean}
-use Rattle.desk.specs.restating.Known.{Known}
-use Rattle.comparing.specs.pairs.Judging.{sizesOf, pairOf}
-use Rattle.comparing.specs.Pairing.{workOf, notWork, leanOf, notLean}
-use Rattle.comparing.proofs.pairs.PairRefusals.{SoundPair, sound-pair, refused-alike}
+use Rattle.desk.specs.AcceptedSheet.{AcceptedSheet}
+use Rattle.comparing.specs.Calls.{SameWorkAnswer, WinnerAnswer, LeanerPart}
+use Rattle.comparing.proofs.both.Refusals.{PassedPair, passed-pair, RefusedPair, refused-pair, refused-alike}
 
 -- the second sheet has fewer restated steps
 abbrev fewer : List ℕ → List ℕ → Bool
 fewer b c = ltb (length (restatedSteps c)) (length (restatedSteps b))
 
+bit-cond : (t : Bool) → bit t ≡ cond t 1 0
+bit-cond true = refl
+bit-cond false = refl
+
 -- ---- a pair that passed
 
-module _ (b c : List ℕ) {pair : Pair} {n s : ℕ} (told : pairOf pair ≡ ofPair b c (sizesOf b)) (e : pair ≡ Sound n s) where
-  sound-told : SoundPair b c n s
-  sound-told = sound-pair b c n s (ap pairOf (sym e) ∙ told)
+module _ (b c : List ℕ) (a : Answer) (z : Sizes) (e : a ≡ Answer.Accepted z) (told : outcomeOf a ≡ ofPair b c (sizesOf b)) where
+  passed : PassedPair b c z
+  passed = passed-pair b c a z e told
 
-  pub both-known : Known b n s × Known c n s
-  both-known = (sound-told .first-read, sound-told .second-read)
+  pub both-accepted : AcceptedSheet b z × AcceptedSheet c z
+  both-accepted = (passed .first-accepted, passed .second-accepted)
 
-  gives : {A : Type 0} (x y : A) → y ≡ x → given y ≡ ofPair b c x
-  gives x y h =
-      let p = sound-told in
-      sym (pair-given b c x y .1 (p .first-read .sheet-accepted, p .second-read .sheet-accepted, p .same-tables, sym h))
+  gives : {A : Type 0} (x : A) → given x ≡ ofPair b c x
+  gives x =
+      let p = passed in
+      sym (pair-given b c x x .1 (p .first-accepted .sheet-accepted, p .second-accepted .sheet-accepted, p .same-tables, refl))
 
-  pub work-told : (t : Bool) → t ≡ sameBytes (restatedSteps b) (restatedSteps c) → given t ≡ sameWork b c
+  pub work-told : (t : Bool) (x : ℕ) → x ≡ bit t → t ≡ sameBytes (restatedSteps b) (restatedSteps c) → SameWorkAnswer b c (Answer.Given x)
   unfolding sameWork
-  work-told t h = gives (sameBytes (restatedSteps b) (restatedSteps c)) t h
+  work-told t x p q =
+      ap (λ (y : ℕ). given (y ∷ [])) (p ∙ ap bit q)
+      ∙ ap (values (λ (y : Bool). single (bit y))) (gives (sameBytes (restatedSteps b) (restatedSteps c)))
 
-  pub winner-told : (t : Bool) → t ≡ fewer b c → given (cond t 1 0) ≡ winner b c
+  winner-is : (t : Bool) → t ≡ fewer b c → winner b c ≡ given (bit t)
   unfolding winner
-  winner-told t h = gives (cond (fewer b c) 1 0) (cond t 1 0) (ap (λ (x : Bool). cond x 1 0) h)
+  winner-is t q = sym (gives (cond (fewer b c) 1 0)) ∙ ap given (sym (ap bit q ∙ bit-cond (fewer b c)))
 
-  pub section-first : (p : List ℕ) → false ≡ fewer b c → p ≡ stepSection b → p ≡ leaner b c
-  section-first p h q = q ∙ sym (leaner-first b c (sym (winner-told false h)))
+  pub winner-told : (t : Bool) (x : ℕ) → x ≡ bit t → t ≡ fewer b c → WinnerAnswer b c (Answer.Given x)
+  winner-told t x p q = ap (λ (y : ℕ). given (y ∷ [])) p ∙ ap (values single) (sym (winner-is t q))
 
-  pub section-second : (p : List ℕ) → true ≡ fewer b c → p ≡ stepSection c → p ≡ leaner b c
-  section-second p h q = q ∙ sym (leaner-second b c (sym (winner-told true h)))
+  pub section-first : (p : List ℕ) (t : Bool) → t ≡ false → t ≡ fewer b c → p ≡ stepSection b → LeanerPart b c p
+  section-first p t f q h = h ∙ sym (leaner-first b c (winner-is false (sym f ∙ q)))
+
+  pub section-second : (p : List ℕ) (t : Bool) → t ≡ true → t ≡ fewer b c → p ≡ stepSection c → LeanerPart b c p
+  section-second p t f q h = h ∙ sym (leaner-second b c (winner-is true (sym f ∙ q)))
 
 -- ---- a pair that was refused
 
-module _ (b c : List ℕ) {pair : Pair} {k i sheet : ℕ} (told : pairOf pair ≡ ofPair b c (sizesOf b)) (e : pair ≡ pairRefused k i sheet) where
-  refuses : {A : Type 0} (x : A) → refused k i sheet ≡ ofPair b c x
-  refuses x = refused-alike b c (sizesOf b) x k i sheet (ap pairOf (sym e) ∙ told)
+module _ (b c : List ℕ) (a : Answer) (h : NotAccepted a) (told : outcomeOf a ≡ ofPair b c (sizesOf b)) where
+  stopped : RefusedPair b c a
+  stopped = refused-pair b c a h told
 
-  pub no-work : (r : Work) → r ≡ notWork pair → workOf r ≡ sameWork b c
+  refuses : {A : Type 0} (x : A) → refused (stopped .number) (stopped .index) (stopped .sheet) ≡ ofPair b c x
+  refuses x = refused-alike b c (sizesOf b) x (stopped .number) (stopped .index) (stopped .sheet) (stopped .pair-told)
+
+  pub no-work : SameWorkAnswer b c a
   unfolding sameWork
-  no-work r f = ap workOf (f ∙ ap notWork e) ∙ refuses (sameBytes (restatedSteps b) (restatedSteps c))
+  no-work =
+      ap outcomeOf (stopped .answer-told)
+      ∙ ap (values (λ (y : Bool). single (bit y))) (refuses (sameBytes (restatedSteps b) (restatedSteps c)))
 
-  winner-refused : refused k i sheet ≡ winner b c
+  no-winner-is : refused (stopped .number) (stopped .index) (stopped .sheet) ≡ winner b c
   unfolding winner
-  winner-refused = refuses (cond (fewer b c) 1 0)
+  no-winner-is = refuses (cond (fewer b c) 1 0)
 
-  pub no-winner : (r : Lean) → r ≡ notLean pair → leanOf r ≡ winner b c
-  no-winner r f = ap leanOf (f ∙ ap notLean e) ∙ winner-refused
+  pub no-winner : WinnerAnswer b c a
+  no-winner = ap outcomeOf (stopped .answer-told) ∙ ap (values single) no-winner-is
 
-  pub no-section : [] ≡ leaner b c
-  no-section = sym (leaner-refused b c k i sheet (sym winner-refused))
+  pub no-section : LeanerPart b c []
+  no-section = sym (leaner-refused b c (stopped .number) (stopped .index) (stopped .sheet) (sym no-winner-is))

@@ -1,4 +1,2 @@
-pub mod Pairing
+pub mod Calls
 pub mod Demands
-pub mod parts
-pub mod pairs

@@ -1,3 +1,1 @@
-pub mod owners
-pub mod clashing
-pub mod offences
+pub mod participants

@@ -1,4 +1,4 @@
-// Which actions share a component, by the alphabets: the components of each action, clashes in a step, the process check.
-pub mod clashing;
-pub mod offences;
-pub mod owners;
+// Which actions are dependent, tested by the alphabets: the participants of each action, clashes in a step, the process check.
+pub mod clash;
+pub mod participants;
+pub mod process;

@@ -1,4 +1,2 @@
-pub mod Arrays
-pub mod EndAnswers
-pub mod Parts
-pub mod ProcessAnswers
+pub mod Accepted
+pub mod Demands

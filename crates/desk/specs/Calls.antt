@@ -1,60 +1,47 @@
--- What the values of the desk's calls stand for: for each case of an answer, document 01's number and values.
+-- What each call on one sheet answers and leaves: the promises, one name for each.
 -- Assumes nothing.
 use mathlib.Core.Path.{_≡_}
-use mathlib.Core.Bool.{cond}
-use mathlib.Core.List.{List, map}
-use mathlib.Core.Option.{Option, none, some as just}
-use Prim.Native.Nat.{ℕ, _<_}
-use lib.Dec.{ltb}
-use lib.ListN.{length, getD, replicate}
-use Rattle.sets.specs.Lists.{below}
-use Rattle.sheet.specs.Layout.{componentCount}
-use Rattle.sheet.specs.Verdict.{Verdict, accepted, refused, verdict, Accepted}
-use Rattle.reading.specs.declared.Reading.{Reading}
-use Rattle.reading.specs.declared.Reading.the-variants.{Accepted as readAccepted, Refused as readRefused}
-use Rattle.reading.specs.Reading.{readingOf}
-use Rattle.desk.specs.declared.EndSets.{EndSets}
-use Rattle.desk.specs.declared.Process.{Process}
-use Rattle.desk.specs.declared.Process.the-variants.{Yes, Offends, Refused as processRefused}
-use Rattle.answers.specs.Answers.{Answer}
-use Rattle.answers.specs.EndSets.{endSet}
+use mathlib.Core.List.{List}
+use Prim.Native.Nat.{ℕ}
+use lib.ListN.{length, replicate}
+use Rattle.traces.specs.Offences.{offending}
+use Rattle.sheet.specs.Verdict.{Verdict, accepted, refused, verdict}
+use Rattle.answers.specs.declared.Answer.{Answer}
+use Rattle.answers.specs.Outcomes.{values, single, bit, outcomeOf, readOutcome}
+use Rattle.answers.specs.EndSets.{endArray}
 use Rattle.answers.specs.ProcessCheck.{processCheck}
+use Rattle.answers.specs.Restating.{restating, outputAfter}
+use Rattle.answers.specs.Figure.{figureOutcome}
+use Rattle.answers.specs.Stuck.{stuckOutcome}
+use Rattle.desk.specs.declared.verdict.EndSets.{EndSets}
 
--- the set with index j of a list where j is below n, else the empty set
-abbrev pub keptOf : List ℕ → ℕ → ℕ → ℕ
-keptOf l n j = cond (ltb j n) (getD l j 0) 0
+-- the check: the sizes of an accepted sheet, or the refusal
+abbrev pub CheckAnswer : List ℕ → Answer → Type 0
+CheckAnswer b r = outcomeOf r ≡ readOutcome b (verdict b)
 
 -- the array of end sets of an accepted sheet, 0 for the components that it does not have; zeros for a refused one
 abbrev pub endArrayBy : Verdict → List ℕ → List ℕ
-endArrayBy accepted b = map (λ j. cond (ltb j (componentCount b)) (endSet b j) 0) (below 16)
+endArrayBy accepted b = endArray b
 endArrayBy (refused k i) b = replicate 16 0
 
--- the verdict on the sheet b, and the array afterwards: its first sets are the end sets of an accepted sheet
-pub record Judged (b : List ℕ) (r : Reading) (held : List ℕ) : Type 0 where
-  pub size : length held ≡ 16
-  pub verdict-told : r ≡ readingOf b (verdict b)
-  pub ends : Accepted b → (j : ℕ) → j < componentCount b → getD held j 0 ≡ endSet b j
-
--- the answer of the call for end sets: the verdict, and the array
-pub record EndSetsRight (b : List ℕ) (r : EndSets) : Type 0 where
-  pub verdict-told : r .reading ≡ readingOf b (verdict b)
+-- the end sets: the verdict, and the array
+pub record EndSetsAnswer (b : List ℕ) (r : EndSets) : Type 0 where
+  pub answer-told : CheckAnswer b (r .answer)
   pub sets-told : r .sets ≡ endArrayBy (verdict b) b
 
--- the process check's answer: yes, the first step that offends, or the refusal
-abbrev pub processOf : Process → Answer (Option ℕ)
-processOf Yes = Answer.given none
-processOf (Offends i) = Answer.given (just i)
-processOf (processRefused k i) = Answer.refused k i
+-- the process check: 0 for yes, else one past the index of the first step that offends
+abbrev pub ProcessAnswer : List ℕ → Answer → Type 0
+ProcessAnswer b r = outcomeOf r ≡ values (λ o. single (offending o)) (processCheck b)
 
--- a reader's refusal as the process check's; an accepted sheet has none
-abbrev pub notProcess : Reading → Process
-notProcess (readAccepted n m t s) = Yes
-notProcess (readRefused k i) = processRefused k i
+-- restating: the bytes written, and the output afterwards
+pub record RestateAnswer (b out : List ℕ) (r : Answer) (after : List ℕ) : Type 0 where
+  pub answer-told : outcomeOf r ≡ values single (restating b (length out))
+  pub output-left : after ≡ outputAfter b out
 
--- the answer of the check: the sizes of an accepted sheet, or the refusal
-abbrev pub CheckRight : List ℕ → Reading → Type 0
-CheckRight b r = r ≡ readingOf b (verdict b)
+-- the concurrency figure
+abbrev pub FigureAnswer : List ℕ → Answer → Type 0
+FigureAnswer b r = outcomeOf r ≡ values single (figureOutcome b)
 
--- the answer of the process check
-abbrev pub ProcessRight : List ℕ → Process → Type 0
-ProcessRight b r = processOf r ≡ processCheck b
+-- stuck: 1 for yes, 0 for no
+abbrev pub StuckAnswer : List ℕ → Answer → Type 0
+StuckAnswer b r = outcomeOf r ≡ values (λ t. single (bit t)) (stuckOutcome b)

@@ -1,6 +1,6 @@
 pub mod Runs
 pub mod moves
-pub mod indexing
-pub mod closing
+pub mod index
+pub mod closure
 pub mod firing
-pub mod engine
+pub mod steps

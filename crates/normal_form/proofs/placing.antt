@@ -1,2 +1,1 @@
-pub mod Dependences
 pub mod Showing

@@ -1,3 +1,3 @@
-pub mod Packed
+pub mod HoldsFoata
 pub mod levels
 pub mod placing

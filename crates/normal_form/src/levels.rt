@@ -3,7 +3,8 @@ ghost use mathlib.Core.Path.{_≡_};
 ghost use Prim.Native.Nat.{_^_, _<_, max};
 ghost use lib.ListN.{length};
 ghost use Rattle.sets.specs.Bits.{members};
-ghost use Rattle.normal_form.specs.levels.Levels.{largest, Marked};
+ghost use Rattle.dependence.specs.participants.Levels.{largest};
+ghost use Rattle.normal_form.specs.levels.Levels.{LevelsRaised};
 
 // The larger of two numbers.
 pub fn larger(x: usize, y: usize) -> usize
@@ -27,9 +28,9 @@ pub fn highest(mine: u64, from: usize, last: &[usize]) -> usize
 }
 
 // Enters one past the level for each component of a set.
-pub fn mark(mine: u64, level: usize, last: &mut [usize])
+pub fn raise(mine: u64, level: usize, last: &mut [usize])
     requires { ⌜ (mine < 2 ^ 16) × (level < 1024) × (length (now last) ≡ 16) ⌝ }
-    ensures { λ _. ⌜ Marked mine level (now (last .entry)) (now (last .exit)) ⌝ }
+    ensures { λ _. ⌜ LevelsRaised mine level (now (last .entry)) (now (last .exit)) ⌝ }
 {
     let mut left = mine;
     while left != 0 {

@@ -4,41 +4,49 @@ ghost use mathlib.Core.List.{[], _∷_};
 ghost use Prim.Native.Nat.{_<_};
 ghost use lib.ListN.{length};
 ghost use Rattle.sets.specs.Bits.{members};
-ghost use Rattle.normal_form.specs.placing.Placing.{OfSixteen, AllOwned, Bounded, Placed};
+ghost use Rattle.dependence.specs.participants.Participants.{OfSixteen};
+ghost use Rattle.normal_form.specs.levels.Levels.{Room};
+ghost use Rattle.normal_form.specs.placing.Placing.{PlacesWord};
 use crate::levels;
 
-// Places the action a in the first step that it may stand in, behind the last step of each of its components, and gives back how
+// Places the action a in the first step that it may stand in, behind the last step of each of its participants, and gives back how
 // many steps there are then.
-fn place(owners: &[u64], a: u32, count: usize, last: &mut [usize], packed: &mut [u64]) -> usize
-    requires { ⌜ OfSixteen (now owners) × (length (now last) ≡ 16) × (length (now packed) ≡ 1024)
-        × (a < 64) × AllOwned (now owners) (a ∷ []) × Bounded (now owners) (now last) (now packed) count 1 ⌝ }
-    ensures { λ r. ⌜ Placed (now (owners .entry)) (a ∷ []) (now (last .entry)) (now (packed .entry)) count
+fn place(
+    participants: &[u64],
+    a: u32,
+    count: usize,
+    last: &mut [usize],
+    packed: &mut [u64],
+) -> usize
+    requires { ⌜ OfSixteen (now participants) × (length (now last) ≡ 16) × (length (now packed) ≡ 1024)
+        × (a < 64) × Room (now last) 1 ⌝ }
+    ensures { λ r. ⌜ PlacesWord (now (participants .entry)) (a ∷ []) (now (last .entry)) (now (packed .entry)) count
         (now (last .exit)) (now (packed .exit)) r ⌝ }
 {
-    let mine = owners[a as usize];
+    let mine = participants[a as usize];
     let at = levels::highest(mine, 0, last);
-    levels::mark(mine, at, last);
+    levels::raise(mine, at, last);
     packed[at] = sets::with(packed[at], a);
     levels::larger(count, at + 1)
 }
 
 // Places the actions of a step in rising number.
 pub fn place_step(
-    owners: &[u64],
+    participants: &[u64],
     step: u64,
     count: usize,
     last: &mut [usize],
     packed: &mut [u64],
 ) -> usize
-    requires { ⌜ OfSixteen (now owners) × (length (now last) ≡ 16) × (length (now packed) ≡ 1024)
-        × AllOwned (now owners) (members step) × Bounded (now owners) (now last) (now packed) count (length (members step)) ⌝ }
-    ensures { λ r. ⌜ Placed (now (owners .entry)) (members step) (now (last .entry)) (now (packed .entry)) count
+    requires { ⌜ OfSixteen (now participants) × (length (now last) ≡ 16) × (length (now packed) ≡ 1024)
+        × Room (now last) (length (members step)) ⌝ }
+    ensures { λ r. ⌜ PlacesWord (now (participants .entry)) (members step) (now (last .entry)) (now (packed .entry)) count
         (now (last .exit)) (now (packed .exit)) r ⌝ }
 {
     let mut steps = count;
     let mut left = step;
     while left != 0 {
-        steps = place(owners, sets::lowest(left), steps, last, packed);
+        steps = place(participants, sets::lowest(left), steps, last, packed);
         left = sets::without_lowest(left);
     }
     steps

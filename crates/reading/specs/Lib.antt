@@ -1,5 +1,3 @@
-pub mod Tests
 pub mod Reading
-pub mod trailer
 pub mod records
 pub mod transitions

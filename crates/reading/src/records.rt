@@ -7,9 +7,9 @@ ghost use lib.ListN.{length};
 ghost use Rattle.sets.specs.Lists.{some, below};
 ghost use Rattle.sheet.specs.Numbers.{field};
 ghost use Rattle.sheet.specs.Refusals.{outside, recordWrong};
-ghost use Rattle.reading.specs.records.Alphabets.{UsedBy, unusedIn};
+ghost use Rattle.reading.specs.records.Alphabets.{UnionOfAlphabets, unusedIn};
 
-// Whether a count of states is outside its limits.
+// Whether there are too few or too many states.
 fn miscounted(states: u64) -> bool
     ensures { λ r. ⌜ r ≡ outside 1 32 states ⌝ }
 {
@@ -57,7 +57,7 @@ pub fn records_wrong(records: &[u8], n: usize, m: u64) -> bool
 // The union of the first n alphabets.
 fn used(alphabets: &[u64], n: usize) -> u64
     requires { ⌜ n ≤ length (now alphabets) ⌝ }
-    ensures { λ r. ⌜ UsedBy (now (alphabets .entry)) n r ⌝ }
+    ensures { λ r. ⌜ UnionOfAlphabets (now (alphabets .entry)) n r ⌝ }
 {
     let mut all = 0;
     let mut j = 0;
@@ -79,7 +79,7 @@ fn full(m: u32) -> u64
     (1u64 << m) - 1
 }
 
-// 6: whether some action below m is in none of the n alphabets.
+// 6: whether the n alphabets leave out one of the m actions.
 pub fn action_unused(alphabets: &[u64], n: usize, m: u32) -> bool
     requires { ⌜ (m ≤ 64) × (n ≤ length (now alphabets)) ⌝ }
     ensures { λ r. ⌜ r ≡ unusedIn (now (alphabets .entry)) n m ⌝ }

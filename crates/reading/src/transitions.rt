@@ -7,13 +7,14 @@ ghost use lib.Dec.{eqb};
 ghost use lib.ListN.{length, take, drop, getD};
 ghost use Rattle.sets.specs.Lists.{some};
 ghost use Rattle.sets.specs.Bits.{member};
+ghost use Rattle.systems.specs.Tables.{Tables};
 ghost use Rattle.sheet.specs.Numbers.{parts};
-ghost use Rattle.sheet.specs.Layout.{statesOf, transitionOf};
-ghost use Rattle.sheet.specs.Refusals.{risingBytes};
-ghost use Rattle.reading.specs.transitions.Fitting.{misfit, unfit, heavyFirst};
-ghost use Rattle.reading.specs.transitions.Numbered.{transitionsNumber};
+ghost use Rattle.sheet.specs.Layout.{transitionOf, tablesOf};
+ghost use Rattle.sheet.specs.Refusals.{transitionWrong, risingBytes};
+ghost use Rattle.sheet.specs.Sections.{sectionTables, Alphabets};
+ghost use Rattle.reading.specs.transitions.Fitting.{AtHand, heavyFirst};
 
-// Whether a label is neither that of an internal move nor in the alphabet.
+// Whether a component with this alphabet cannot have the label.
 fn label_wrong(alphabet: u64, label: u8) -> bool
     ensures { λ r. ⌜ r ≡ not (eqb label 255 || member alphabet label) ⌝ }
 {
@@ -28,7 +29,8 @@ fn label_wrong(alphabet: u64, label: u8) -> bool
 // Whether the transition at `at` does not fit a component with so many states and this alphabet.
 fn unfit_at(section: &[u8], at: usize, states: u8, alphabet: u64) -> bool
     requires { ⌜ at + 4 ≤ length (now section) ⌝ }
-    ensures { λ r. ⌜ r ≡ unfit states alphabet (transitionOf (take 4 (drop at (now (section .entry))))) ⌝ }
+    ensures { λ r. ⌜ ((T : Tables) → AtHand T (getD (now (section .entry)) at 0) states alphabet
+        → r ≡ transitionWrong T (transitionOf (take 4 (drop at (now (section .entry)))))) ⌝ }
 {
     if states <= section[at + 1] {
         return true;
@@ -39,12 +41,12 @@ fn unfit_at(section: &[u8], at: usize, states: u8, alphabet: u64) -> bool
     label_wrong(alphabet, section[at + 2])
 }
 
-// 7: whether some transition of the section does not fit its component. Mostly it has the component of the one before, whose number of
-// states and alphabet are at hand.
-fn transitions_wrong(section: &[u8], records: &[u8], alphabets: &[u64], n: usize) -> bool
-    requires { ⌜ (1 ≤ n) × (16 * n ≤ length (now records)) × (n ≤ length (now alphabets)) × (n ≤ 16) ⌝ }
+// 7: whether some transition of the section does not fit its component. Mostly that is the component of the one before, whose number of
+// states and alphabet are at hand. The number of actions, 0 in the contract, plays no part.
+pub fn transitions_wrong(section: &[u8], records: &[u8], alphabets: &[u64], n: usize) -> bool
+    requires { ⌜ (1 ≤ n) × (n ≤ 16) × (16 * n ≤ length (now records)) × Alphabets (tablesOf (now records) n 0) n (now alphabets) ⌝ }
     ensures { λ r. ⌜ r
-        ≡ some (misfit (statesOf (now (records .entry))) (now (alphabets .entry)) n)
+        ≡ some (transitionWrong (sectionTables (now (records .entry)) (now (section .entry)) n 0))
         (map transitionOf (parts 4 (length (now (section .entry)) / 4) (now (section .entry)))) ⌝ }
 {
     let count = section.len() / 4;
@@ -71,7 +73,7 @@ fn transitions_wrong(section: &[u8], records: &[u8], alphabets: &[u64], n: usize
 }
 
 // The two bytes at `at` as one number, the first byte heaviest.
-fn pair(s: &[u8], at: usize) -> u64
+fn two_bytes(s: &[u8], at: usize) -> u64
     requires { ⌜ at + 2 ≤ length (now s) ⌝ }
     ensures { λ r. ⌜ (r ≡ 256 * getD (now (s .entry)) at 0 + getD (now (s .entry)) (at + 1) 0) × (r < 65536) ⌝ }
 {
@@ -83,11 +85,11 @@ fn key(s: &[u8], at: usize) -> u64
     requires { ⌜ at + 4 ≤ length (now s) ⌝ }
     ensures { λ r. ⌜ r ≡ heavyFirst (take 4 (drop at (now (s .entry)))) ⌝ }
 {
-    65536 * pair(s, at) + pair(s, at + 2)
+    65536 * two_bytes(s, at) + two_bytes(s, at + 2)
 }
 
-// 8: whether the transitions of the section do not rise strictly.
-fn order_wrong(section: &[u8]) -> bool
+// 8: whether the transitions of the section are out of order.
+pub fn order_wrong(section: &[u8]) -> bool
     ensures { λ r. ⌜ r ≡ not (risingBytes (parts 4 (length (now (section .entry)) / 4) (now (section .entry)))) ⌝ }
 {
     let count = section.len() / 4;
@@ -105,20 +107,4 @@ fn order_wrong(section: &[u8]) -> bool
         k += 1;
     }
     false
-}
-
-// 7, 8 or 0: whether some transition of the section does not fit its component, else whether they do not rise strictly.
-pub fn transitions_refused(section: &[u8], records: &[u8], alphabets: &[u64], n: usize) -> u64
-    requires { ⌜ (1 ≤ n) × (16 * n ≤ length (now records)) × (n ≤ length (now alphabets)) × (n ≤ 16) ⌝ }
-    ensures { λ r. ⌜ r
-        ≡ transitionsNumber (statesOf (now (records .entry))) (now (alphabets .entry)) n
-        (parts 4 (length (now (section .entry)) / 4) (now (section .entry))) ⌝ }
-{
-    if transitions_wrong(section, records, alphabets, n) {
-        return 7;
-    }
-    if order_wrong(section) {
-        return 8;
-    }
-    0
 }

@@ -1,35 +1,38 @@
--- The lines written for an accepted sheet are its report, and a report always fits 16,384 bytes; what is then printed.
+-- The lines written for a sheet are its report, and a report always fits 16,384 bytes; what is then printed.
 -- Assumes nothing.
 use mathlib.Core.Path.{_≡_, refl, sym, ap, ap₂, _∙_}
-use mathlib.Core.Bool.{Bool}
 use mathlib.Core.List.{List, [], _∷_, _++_, map, List·Memᴰ, List·Memᴰ·head, List·Memᴰ·tail}
-use Prim.Native.Nat.{ℕ, _+_, _≤_}
+use Prim.Native.Nat.{ℕ, _+_, _≤_, _<_}
 use native.Mathlib.Omega.{arith}
-use lib.Dec.{ltb}
-use lib.ListN.{length, take, drop, getD, length-append}
-use Rattle.sets.specs.Lists.{concat, below}
+use lib.ListN.{length, take, getD, length-append}
+use Rattle.sets.specs.Lists.{concat, over, below}
 use Rattle.sets.specs.Bits.{members}
-use borrow.Author.Tests.{le-ltb}
 use Rattle.sets.proofs.Lists.{mem-below}
 use Rattle.systems.specs.Checking.{flat}
-use Rattle.sheet.specs.Layout.{componentCount, stepCount, tables, steps}
+use Rattle.sheet.specs.Layout.{componentCount, actionCount, transitionsAt, stepsAt, stepCount, tables, steps}
 use Rattle.sheet.specs.Verdict.{Verdict, verdict, Accepted}
 use Rattle.sheet.proofs.RoundTrip.{steps-length}
+use Rattle.answers.specs.declared.Sizes.{Sizes}
+use Rattle.answers.specs.declared.Answer.{Answer}
+use Rattle.answers.specs.Outcomes.{Outcome, given, values, single, bit, outcomeOf, readOutcome}
+use Rattle.answers.specs.LentOutput.{outputBy}
 use Rattle.answers.specs.EndSets.{endSet}
 use Rattle.answers.specs.Restated.{restatedSteps}
-use Rattle.answers.specs.Report.{acceptedWord, refusedWord, endWord, line, summaryLine, stepLines, endLines, report}
+use Rattle.answers.specs.Figure.{figure}
+use Rattle.answers.specs.Stuck.{stuck}
+use Rattle.answers.specs.Report.{acceptedWord, refusedWord, endWord, line, summaryLine, stepLines, endLines, report, reporting, reportOutput}
 use Rattle.answers.proofs.Normal.{normal-actions, normal-no-longer}
 use Rattle.answers.proofs.Restated.{restated-normal, accepted-limits, accepted-order, accepted-fine}
 use Rattle.answers.proofs.Reports.{report-refused, report-accepted}
-use Rattle.report.specs.printing.Texts.{TextAt, stepTexts, endTexts}
-use Rattle.report.proofs.printing.Bounds.{line-most, steps-most, ends-most}
-use Rattle.desk.specs.restating.Known.{PackedSteps}
-use Rattle.desk.specs.measures.Ends.{EndsKnown}
-use Rattle.desk.proofs.measures.EndArrays.{set-at}
-use Rattle.report.specs.declared.Printed.the-variants.{Text}
-use Rattle.report.specs.summary.Summaries.{summaryOf}
-use Rattle.report.specs.fitting.Fitting.{outputUnless, fitted}
-use Rattle.report.specs.Printouts.{unlessShort, printedOf, outputOf}
+use Rattle.answers.proofs.Passing.{NotAccepted, stopped-by}
+use Rattle.answers.proofs.LentOutput.{fitting-short, fitting-long}
+use Rattle.desk.specs.AcceptedSheet.{AcceptedSheet}
+use Rattle.desk.specs.Calls.{endArrayBy}
+use Rattle.desk.specs.Left.{PackedSteps}
+use Rattle.desk.proofs.stuck.EndsHeld.{set-at}
+use Rattle.report.specs.text.Texts.{TextAt, stepTexts, endTexts}
+use Rattle.report.specs.Calls.{refusalLine, ReportAnswer}
+use Rattle.report.proofs.text.Bounds.{line-most, steps-most, ends-most}
 
 -- ---- the lines of an accepted sheet
 
@@ -41,23 +44,25 @@ steps-told : (b packed : List ℕ) (count : ℕ) → PackedSteps b packed count 
 unfolding stepLines
 steps-told b packed count p = ap stepTexts (p .sets)
 
-summary-line : (b : List ℕ) → line acceptedWord (summaryOf b) ≡ summaryLine b
-unfolding summaryLine
-summary-line b = refl
-
-module _ {b : List ℕ} {n m s : ℕ} {sets : List ℕ} (r : EndsKnown b n m s sets) where
-  ends-told : endTexts sets (below n) ≡ endLines b
+module _ (b : List ℕ) (z : Sizes) (r : AcceptedSheet b z) (sets : List ℕ) (ended : sets ≡ endArrayBy (verdict b) b) where
+  ends-told : endTexts sets (below (z .n)) ≡ endLines b
   unfolding endLines
   ends-told =
-      texts-same (λ j. line endWord (j ∷ members (getD sets j 0))) (λ j. line endWord (j ∷ members (endSet b j))) (below n)
-      (λ j i. ap (λ (x : ℕ). line endWord (j ∷ members x)) (set-at r j (mem-below n j .0 i)))
-      ∙ ap (λ (k : ℕ). concat (map (λ j. line endWord (j ∷ members (endSet b j))) (below k))) (r .known .n-read)
+      texts-same (λ j. line endWord (j ∷ members (getD sets j 0))) (λ j. line endWord (j ∷ members (endSet b j))) (below (z .n))
+      (λ j i. ap (λ (x : ℕ). line endWord (j ∷ members x)) (set-at b z r sets ended j (mem-below (z .n) j .0 i)))
+      ∙ ap (λ (k : ℕ). concat (map (λ j. line endWord (j ∷ members (endSet b j))) (below k))) (r .n-read)
 
-  pub accepted-text : (numbers packed : List ℕ) (count : ℕ) → numbers ≡ summaryOf b → PackedSteps b packed count
-      → line acceptedWord numbers ++ (stepTexts (take count packed) ++ endTexts sets (below n)) ≡ report b
+  pub accepted-text : (numbers packed : List ℕ) (count : ℕ) → line acceptedWord numbers ≡ summaryLine b → PackedSteps b packed count
+      → line acceptedWord numbers ++ (stepTexts (take count packed) ++ endTexts sets (below (z .n))) ≡ report b
   accepted-text numbers packed count q p =
-      ap₂ _++_ (ap (line acceptedWord) q ∙ summary-line b) (ap₂ _++_ (steps-told b packed count p) ends-told)
-      ∙ sym (report-accepted b (r .known .sheet-accepted))
+      ap₂ _++_ q (ap₂ _++_ (steps-told b packed count p) ends-told) ∙ sym (report-accepted b (r .sheet-accepted))
+
+-- ---- the line of a refusal
+
+pub refusal-text : (b : List ℕ) (a : Answer) → NotAccepted a → outcomeOf a ≡ readOutcome b (verdict b) → refusalLine a ≡ report b
+refusal-text b a h e =
+    let s = stopped-by a h (verdict b) (componentCount b) (actionCount b) (transitionsAt b) (stepsAt b) e in
+    ap refusalLine (s .answer-told) ∙ sym (report-refused b (s .number) (s .index) (s .verdict-told))
 
 -- ---- the length of a report
 
@@ -84,13 +89,19 @@ module _ (b : List ℕ) (acc : Accepted b) where
   unfolding endLines
   ends-short = ends-most (endSet b) (componentCount b) (accepted-limits b acc .components-high)
 
+  summary-short : length (summaryLine b) ≤ 93
+  unfolding summaryLine
+  summary-short =
+      let h = line-most acceptedWord (stepCount b ∷ length (restatedSteps b) ∷ figure b ∷ bit (stuck b) ∷ []) in
+      omega arith
+
   accepted-short : length (report b) ≤ 16384
-  unfolding summaryLine stepLines
+  unfolding stepLines
   accepted-short =
       let e = ap length (report-accepted b acc) in
       let x = length-append (summaryLine b) (stepLines b ++ endLines b) in
       let y = length-append (stepLines b) (endLines b) in
-      let first = line-most acceptedWord (summaryOf b) in
+      let first = summary-short in
       let second = steps-most (restatedSteps b) in
       let third = ends-short in
       let f = few-steps in
@@ -108,28 +119,39 @@ report-short b = go (verdict b) refl
         omega arith
 
 -- the room that the lines of an accepted sheet and that of a refusal take
-pub accepted-room : {b : List ℕ} {n m s : ℕ} {sets : List ℕ} → EndsKnown b n m s sets → (numbers packed : List ℕ) (count : ℕ)
-    → numbers ≡ summaryOf b → PackedSteps b packed count → (size : ℕ) → 16384 ≤ size
-    → 0 + length (line acceptedWord numbers ++ (stepTexts (take count packed) ++ endTexts sets (below n))) ≤ size
-accepted-room {b = b} r numbers packed count q p size h =
-    let x = ap length (accepted-text r numbers packed count q p) in
+pub accepted-room : (b : List ℕ) (z : Sizes) → AcceptedSheet b z → (sets : List ℕ) → sets ≡ endArrayBy (verdict b) b
+    → (numbers packed : List ℕ) (count : ℕ) → line acceptedWord numbers ≡ summaryLine b → PackedSteps b packed count → (size : ℕ) → 16384 ≤ size
+    → 0 + length (line acceptedWord numbers ++ (stepTexts (take count packed) ++ endTexts sets (below (z .n)))) ≤ size
+accepted-room b z r sets ended numbers packed count q p size h =
+    let x = ap length (accepted-text b z r sets ended numbers packed count q p) in
     let y = report-short b in
     omega arith
 
-pub refused-room : (numbers : List ℕ) (k i size : ℕ) → numbers ≡ k ∷ i ∷ [] → 16384 ≤ size → 0 + length (line refusedWord numbers) ≤ size
-refused-room numbers k i size e h = let m = line-most refusedWord numbers in let l = ap length e in omega arith
+pub refusal-room : (k i size : ℕ) → 16384 ≤ size → 0 + length (line refusedWord (k ∷ i ∷ [])) ≤ size
+refusal-room k i size h = let m = line-most refusedWord (k ∷ i ∷ []) in omega arith
 
 -- ---- what is printed
 
--- "A buffer of 16,384 bytes always serves."
+pub printed-short : (b out : List ℕ) → length out < length (report b) → ReportAnswer b out (Answer.Refused 13 0 0) out
+unfolding reporting reportOutput
+printed-short b out h =
+    let e = fitting-short (report b) (length out) h in
+    record { answer-told = ap (values single) (sym e); output-left = ap (λ (o : Outcome ℕ). outputBy o (report b) out) (sym e) }
+
+pub printed-long : (b out : List ℕ) → length (report b) ≤ length out → ReportAnswer b out (Answer.Given (length (report b))) (over (report b) out)
+unfolding reporting reportOutput
+printed-long b out h =
+    let e = fitting-long (report b) (length out) h in
+    record { answer-told = ap (values single) (sym e); output-left = ap (λ (o : Outcome ℕ). outputBy o (report b) out) (sym e) }
+
+-- an output of 16,384 bytes always serves
 pub report-serves : (b out : List ℕ) → 16384 ≤ length out
-    → (printedOf b (length out) ≡ Text (length (report b))) × (outputOf b out ≡ report b ++ drop (length (report b)) out)
+    → (reporting b (length out) ≡ given (length (report b))) × (reportOutput b out ≡ over (report b) out)
+unfolding reporting reportOutput
 report-serves b out h =
     let s = report-short b in
-    let f = le-ltb (length out) (length (report b)) (omega arith) in (
-      ap (λ (t : Bool). unlessShort t (length (report b))) f,
-      ap (λ (t : Bool). outputUnless t (report b) out) f,
-    )
+    let e = fitting-long (report b) (length out) (omega arith) in
+    (e, ap (λ (o : Outcome ℕ). outputBy o (report b) out) e)
 
 module _ (b : List ℕ) {x text : List ℕ} {size : ℕ} (W : TextAt (report b) x 0 text size) where
   size-told : size ≡ length (report b)
@@ -142,11 +164,18 @@ module _ (b : List ℕ) {x text : List ℕ} {size : ℕ} (W : TextAt (report b) 
       let f = report-short b in
       omega arith
 
-  -- what the output was found to be, told of the report
-  pub printed-right : (out after : List ℕ) (short : Bool) → short ≡ ltb (length out) (length (take size text)) → after ≡ fitted (take size text) out
-      → (unlessShort short size ≡ printedOf b (length out)) × (after ≡ outputOf b out)
-  printed-right out after short e f =
-      let told = W .written in (
-        ap₂ unlessShort (e ∙ ap (λ (l : List ℕ). ltb (length out) (length l)) told) size-told,
-        f ∙ ap (λ (l : List ℕ). fitted l out) told,
-      )
+  pub text-told : take size text ≡ report b
+  text-told = W .written
+
+  -- the text as it was made is the report
+  pub too-short : (out : List ℕ) → length out < size → ReportAnswer b out (Answer.Refused 13 0 0) out
+  too-short out h = let e = size-told in printed-short b out (omega arith)
+
+  pub copied : (out after : List ℕ) → size ≤ length out → after ≡ over (take size text) out → ReportAnswer b out (Answer.Given size) after
+  copied out after h q =
+      let e = size-told in
+      let p = printed-long b out (omega arith) in
+      record {
+        answer-told = ap (λ (k : ℕ). given (single k)) e ∙ p .answer-told;
+        output-left = q ∙ ap (λ (l : List ℕ). over l out) text-told ∙ p .output-left;
+      }

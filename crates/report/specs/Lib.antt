@@ -1,4 +1,2 @@
-pub mod Printouts
-pub mod printing
-pub mod summary
-pub mod fitting
+pub mod Calls
+pub mod text

@@ -21,6 +21,11 @@ iff-bool true b h = sym (h .0 refl)
 iff-bool false true h = h .1 refl
 iff-bool false false h = refl
 
+pub iff-bool-false : (a b : Bool) → ((a ≡ false) ↔ (b ≡ false)) → a ≡ b
+iff-bool-false true true h = refl
+iff-bool-false true false h = h .1 refl
+iff-bool-false false b h = sym (h .0 refl)
+
 pub not-true : (b : Bool) → (not b ≡ true) ↔ (b ≡ false)
 not-true true = (sym, sym)
 not-true false = (λ e. refl, λ e. refl)

@@ -3,3 +3,4 @@ pub mod Lists
 pub mod Members
 pub mod Counting
 pub mod LowestBit
+pub mod Filling

@@ -2,7 +2,7 @@
 -- The number of bits is free: only `members`, and what is said of it, has 64.
 -- Assumes nothing.
 use mathlib.Core.Path.{_≡_, refl, sym, ap, _∙_, subst}
-use mathlib.Core.Bool.{Bool, true, false, _&&_, _||_, xor, false≢true}
+use mathlib.Core.Bool.{Bool, true, false, _&&_, _||_, false≢true}
 use mathlib.Core.Logic.{_↔_, _≢_, _⊎_, inl, inr}
 use mathlib.Core.List.{List, [], _∷_, List·Memᴰ, List·Memᴰ·head, List·Memᴰ·tail, List·Memᴰ·not-nil}
 use Prim.Native.Nat.{ℕ, zero, suc, _+_, _*_, _/_, _%_, _^_, _≤_, _<_, zero-le, min, max}
@@ -12,7 +12,7 @@ use native.Mathlib.Omega.{arith}
 use lib.Dec.{eqb, eqb·zero-suc, eqb·suc-zero, eqb·suc-suc}
 use lib.Arith.{bin-ind, digits-mod}
 use lib.Pow.{pow-mono, shr-shr}
-use lib.Bits.{bitOr, bitAnd, bitXor, differ, or-step, and-step, xor-step, or-shr, and-shr, xor-shr}
+use lib.Bits.{bitOr, bitAnd, or-step, and-step, or-shr, and-shr}
 use lib.Count.{ones, ones-step, ones-ones}
 use lib.ListN.{length}
 use Rattle.sets.specs.Lists.{keep, RisingAbove, Rising}
@@ -61,10 +61,6 @@ member-or = member-bitwise max _||_ (omega arith, refl) (omega arith, refl) (ome
 
 pub member-and : (x y i : ℕ) → member (bitAnd x y) i ≡ (member x i && member y i)
 member-and = member-bitwise min _&&_ (omega arith, refl) (omega arith, refl) (omega arith, refl) (omega arith, refl) bitAnd and-step and-shr
-
-pub member-xor : (x y i : ℕ) → member (bitXor x y) i ≡ xor (member x i) (member y i)
-unfolding xor
-member-xor = member-bitwise differ xor (omega arith, refl) (omega arith, refl) (omega arith, refl) (omega arith, refl) bitXor xor-step xor-shr
 
 pow-half : (i : ℕ) → 2 ^ suc i / 2 ≡ 2 ^ i
 pow-half i = let e = pow-suc 2 i in omega arith
@@ -202,11 +198,6 @@ pub members-zero : members 0 ≡ []
 unfolding members
 members-zero = refl
 
-pub members-nonempty : (x : ℕ) → x < 2 ^ 64 → x ≢ 0 → members x ≢ []
-members-nonempty x h n e =
-    let r = member-some x n in
-    List·Memᴰ·not-nil (subst (λ (l : List ℕ). List·Memᴰ (r .0) l) e (members-mem x (r .0) .1 (member-lt 64 x (r .0) h (r .1), r .1)))
-
 -- ---- the set of a list's elements
 
 from-setOf : (l : List ℕ) (i : ℕ) → member (setOf l) i ≡ true → List·Memᴰ i l
@@ -225,9 +216,6 @@ into-setOf (j ∷ l) i (List·Memᴰ·tail m) =
 
 pub setOf-member : (l : List ℕ) (i : ℕ) → (member (setOf l) i ≡ true) ↔ List·Memᴰ i l
 setOf-member l i = (from-setOf l i, into-setOf l i)
-
-pub setOf-lt : (n : ℕ) (l : List ℕ) → ((i : ℕ) → List·Memᴰ i l → i < n) → setOf l < 2 ^ n
-setOf-lt n l h = lt-members n (setOf l) (λ i e. h i (setOf-member l i .0 e))
 
 pub setOf-members : (x : ℕ) → x < 2 ^ 64 → setOf (members x) ≡ x
 setOf-members x h =

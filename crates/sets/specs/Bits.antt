@@ -1,4 +1,4 @@
--- A set of numbers below 64 as one number: "bit i for state i", "bit a for action a" (document 01, the sheet).
+-- A set of numbers below 64 as one number, with one bit for each element: sets of states and of actions (document 01, the sheet).
 -- Assumes nothing.
 use mathlib.Core.Bool.{Bool}
 use mathlib.Core.List.{List, [], _∷_}
@@ -16,7 +16,7 @@ unfoldable pub membersFrom : ℕ → ℕ → ℕ → List ℕ
 membersFrom i zero x = []
 membersFrom i (suc k) x = keep (member x i) i (membersFrom (suc i) k x)
 
--- the elements of the set x, rising: "the actions of each in rising number"
+-- the elements of the set x, rising
 unfoldable pub members : ℕ → List ℕ
 unfolding membersFrom
 members x = membersFrom 0 64 x

@@ -1,8 +1,9 @@
--- Tests over a list, and lists whose elements rise.
+-- Tests over a list, lists joined or written over the front of another, and lists whose elements rise.
 -- Assumes nothing.
 use mathlib.Core.Bool.{Bool, true, false, _&&_, _||_}
 use mathlib.Core.List.{List, [], _∷_, _++_, List·Memᴰ}
 use Prim.Native.Nat.{ℕ, zero, suc, _<_}
+use lib.ListN.{length, drop}
 
 module _ {ℓ} {A : Type ℓ} where
   -- some element passes the test
@@ -24,6 +25,10 @@ module _ {ℓ} {A : Type ℓ} where
   abbrev pub keep : Bool → A → List A → List A
   keep true x xs = x ∷ xs
   keep false x xs = xs
+
+  -- a list written over the front of another, whose elements behind it stay
+  abbrev pub over : List A → List A → List A
+  over xs ys = xs ++ drop (length xs) ys
 
   -- no element stands twice
   abbrev pub Distinct : List A → Type ℓ

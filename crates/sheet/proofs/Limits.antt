@@ -32,7 +32,7 @@ both : {p q : Bool} {A B : Type 0} → ((p ≡ true) ↔ A) → ((q ≡ true) �
 both {p} {q} f g =
     (λ e. let h = and-true p q .0 e in (f .0 (h .0), g .0 (h .1)), λ h. and-true p q .1 (f .1 (h .0), g .1 (h .1)))
 
-inside : (low high x : ℕ) → (outside low high x ≡ false) ↔ ((low ≤ x) × (x ≤ high))
+pub inside : (low high x : ℕ) → (outside low high x ≡ false) ↔ ((low ≤ x) × (x ≤ high))
 inside low high x = neither (ltb-false x low) (ltb-false high x)
 
 same : (x y : ℕ) → (not (eqb x y) ≡ false) ↔ (x ≡ y)

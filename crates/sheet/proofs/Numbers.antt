@@ -4,7 +4,7 @@
 use mathlib.Core.Path.{_≡_, refl, sym, ap, ap₂, _∙_, subst}
 use mathlib.Core.List.{List, [], _∷_, _++_, map, map-map, append-assoc, List·Memᴰ, List·Memᴰ·head, List·Memᴰ·tail, Memᴰ·of-map}
 use Prim.Native.Nat.{ℕ, zero, suc, _+_, _-_, _*_, _/_, _%_, _^_, _<_, _≤_}
-use native.Mathlib.Nat.{pow-suc, pow-le-pow-right, div-lt-iff-lt-mul, mul-zero, mul-suc, mul-assoc, mul-comm, add-comm, add-zero, zero-add, suc-add, add-sub-of-le}
+use native.Mathlib.Nat.{pow-suc, div-lt-iff-lt-mul, mul-zero, mul-suc, mul-assoc, mul-comm, add-comm, add-zero, zero-add, suc-add, add-sub-of-le}
 use native.Mathlib.Omega.{arith}
 use lib.ListN.{length, take, drop, getD, length-take, length-drop, length-append, length-map, List·getD-map}
 use lib.Seq.{getD-drop, take-at, drop-at, take-add, take-take, drop-drop, take-nil, length-take-le}
@@ -85,12 +85,6 @@ pow-bytes (suc k) =
     let more : 8 * suc k ≡ 8 * k + 8 = omega arith in
     pow-suc 256 k ∙ ap (λ (x : ℕ). x * 256) (pow-bytes k) ∙ sym (pow-add 2 (8 * k) 8) ∙ ap (λ (x : ℕ). 2 ^ x) (sym more)
 
-pub number-bits : (k : ℕ) (b : List ℕ) → AreBytes b → length b ≤ k → number b < 2 ^ (8 * k)
-number-bits k b h fits =
-    let low = number-lt b h in
-    let more = pow-le-pow-right {n = 256} (omega arith) fits in
-    omega (arith, pow-bytes k)
-
 -- ---- a field: split in two, of one byte, and in a part of the list
 
 number-split : (a c : ℕ) (b : List ℕ) → number (take (a + c) b) ≡ number (take a b) + 256 ^ a * number (take c (drop a b))
@@ -137,14 +131,6 @@ unfolding field
 field-within at size k b h =
     ap (λ (l : List ℕ). number (take size l)) (drop-take at k b (omega arith))
     ∙ ap number (take-take size (k - at) (drop at b) (omega arith))
-
-pub field-behind : (at size k : ℕ) (b : List ℕ) → field at size (drop k b) ≡ field (k + at) size b
-unfolding field
-field-behind at size k b = ap (λ (l : List ℕ). number (take size l)) (drop-drop at k b)
-
--- in a part of the list: `len` elements from `k` on
-pub field-part : (at size len k : ℕ) (b : List ℕ) → at + size ≤ len → field at size (take len (drop k b)) ≡ field (k + at) size b
-field-part at size len k b h = field-within at size len (drop k b) h ∙ field-behind at size k b
 
 -- ---- parts of one size
 

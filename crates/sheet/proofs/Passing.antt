@@ -8,30 +8,16 @@ use mathlib.Core.List.{List}
 use Prim.Native.Nat.{ℕ, zero, suc}
 use Rattle.sets.proofs.Bools.{true-or-false}
 use Rattle.sheet.specs.Refusals.{lengthWrong, markWrong, countsWrong, offsetsWrong, recordsWrong, actionUnused, transitionsWrong, orderWrong, tooManyActions, refusal}
-use Rattle.sheet.specs.Verdict.{Verdict, refused, refuseIf, stepsVerdict, verdict}
+use Rattle.sheet.specs.Verdict.{Verdict, refused, trailerVerdict, tablesVerdict}
 
 -- refusals 1 to 9 in order, then v
 abbrev pub checked : List ℕ → Verdict → Verdict
-checked b v =
-    refuseIf (lengthWrong b) 1
-    (refuseIf (markWrong b) 2
-    (refuseIf (countsWrong b) 3
-    (refuseIf (offsetsWrong b) 4
-    (refuseIf (recordsWrong b) 5
-    (refuseIf (actionUnused b) 6
-    (refuseIf (transitionsWrong b) 7
-    (refuseIf (orderWrong b) 8
-    (refuseIf (tooManyActions b) 9
-    v))))))))
+checked b v = trailerVerdict b (tablesVerdict b v)
 
 -- whatever comes then, the sheet is refused by k before it, or it passes
 pub data Passing (b : List ℕ) : Type 0 where
   stops : (k : ℕ) → ((v : Verdict) → checked b v ≡ refused k 0) → Passing b
   passes : ((k : ℕ) → refusal b k ≡ false) → ((v : Verdict) → checked b v ≡ v) → Passing b
-
-pub verdict-checked : (b : List ℕ) → verdict b ≡ checked b (stepsVerdict b)
-unfolding verdict
-verdict-checked b = refl
 
 pub passing : (b : List ℕ) → Passing b
 unfolding refusal

@@ -9,9 +9,10 @@ use lib.ListN.{length, take, drop, getD, length-append, length-drop, length-map,
 use lib.Seq.{take-at, drop-at, drop-cons, drop-drop, drop-append-add, length-take-le}
 use Rattle.sheet.specs.Numbers.{AreBytes, number, bytes, field, parts}
 use Rattle.sheet.specs.Layout.{recordsAt, transitionsAt, stepsAt, componentCount, actionCount, closing, mark, front, tablesOf, tables, stepCount, steps}
+use Rattle.sheet.specs.Sections.{stepsIn}
 use Rattle.sheet.specs.Limits.{InLimits}
 use Rattle.sheet.specs.Writing.{stepBytes, trailer, sheetOf}
-use Rattle.sheet.proofs.Numbers.{bytes-each, bytes-append, bytes-take, bytes-drop, bytes-concat, bytes-are, number-bytes, bytes-number, number-bits, parts-length, part-bytes, part-at-most, length-numbers, numbers-back, bytes-back, parts-part}
+use Rattle.sheet.proofs.Numbers.{bytes-each, bytes-append, bytes-take, bytes-drop, bytes-concat, bytes-are, number-bytes, bytes-number, parts-length, length-numbers, numbers-back, bytes-back, parts-part}
 
 -- ---- the trailer
 
@@ -189,14 +190,6 @@ pub steps-length : (b : List ℕ) → length (steps b) ≡ stepCount b
 unfolding steps
 steps-length b = length-map (parts 8 (stepCount b) (drop (stepsAt b) b)) number ∙ parts-length 8 (stepCount b) (drop (stepsAt b) b)
 
-pub steps-lt : (b : List ℕ) → AreBytes b → (x : ℕ) → List·Memᴰ x (steps b) → x < 2 ^ 64
-unfolding steps
-steps-lt b h x m =
-    let behind = drop (stepsAt b) b in
-    let r = Memᴰ·of-map number (parts 8 (stepCount b) behind) m in
-    let are = part-bytes 8 (stepCount b) behind (bytes-drop (stepsAt b) b h) (r .0) (r .1) in
-    subst (λ (y : ℕ). y < 2 ^ 64) (r .2) (number-bits 8 (r .0) are (part-at-most 8 (stepCount b) behind (r .0) (r .1)))
-
 pub front-length : (b : List ℕ) → InLimits b → length (front b) ≡ stepsAt b
 unfolding front
 front-length b l = let e = l .trailer-last .2 in length-take-le (stepsAt b) b (omega arith)
@@ -234,7 +227,7 @@ writes-back b h l =
 pub section-length : (b : List ℕ) → InLimits b → length (take (length b - 10 - stepsAt b) (drop (stepsAt b) b)) ≡ 8 * stepCount b
 section-length b l = let e = sections-length b l in length-take-le (length b - 10 - stepsAt b) (drop (stepsAt b) b) (rw length-drop (omega arith)) ∙ omega arith
 
-pub section-steps : (b p : List ℕ) → InLimits b → p ≡ take (length b - 10 - stepsAt b) (drop (stepsAt b) b) → map number (parts 8 (length p / 8) p) ≡ steps b
+pub section-steps : (b p : List ℕ) → InLimits b → p ≡ take (length b - 10 - stepsAt b) (drop (stepsAt b) b) → stepsIn p ≡ steps b
 unfolding steps
 section-steps b p l e =
     let size = section-length b l in

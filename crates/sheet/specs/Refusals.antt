@@ -1,5 +1,6 @@
 -- Refusals 1 to 9, each a condition of its own: true when the sheet is to be refused by it (document 01, "Refusal list").
--- "each condition takes the lower ones as not holding". Refusals 10 to 12 stand in `Rattle.systems.specs.Checking`.
+-- Which comes first is said in Verdict; a condition may take the lower ones as not holding. Refusals 10 to 12 stand in
+-- `Rattle.systems.specs.Checking`.
 -- Assumes nothing.
 use mathlib.Core.Bool.{Bool, true, false, not, _&&_, _||_}
 use mathlib.Core.List.{List, [], _∷_}

@@ -1,12 +1,17 @@
--- The sections of a sheet apart: the tables that stand in a records section and a transition section, and an array of alphabets.
+-- The sections of a sheet apart: the steps that stand in a step section, the tables in a records section and a transition section, and an
+-- array of alphabets.
 -- Assumes nothing.
 use mathlib.Core.Path.{_≡_}
 use mathlib.Core.List.{List, map}
 use Prim.Native.Nat.{ℕ, _/_, _<_}
 use lib.ListN.{length, getD}
 use Rattle.systems.specs.Tables.{Tables}
-use Rattle.sheet.specs.Numbers.{parts}
+use Rattle.sheet.specs.Numbers.{number, parts}
 use Rattle.sheet.specs.Layout.{statesOf, initialOf, alphabetOf, transitionOf}
+
+-- the steps that stand in the bytes of a step section, 8 bytes each (document 01, the sheet)
+abbrev pub stepsIn : List ℕ → List ℕ
+stepsIn b = map number (parts 8 (length b / 8) b)
 
 -- the tables that stand in a records section and a transition section
 abbrev pub sectionTables : List ℕ → List ℕ → ℕ → ℕ → Tables
@@ -20,7 +25,8 @@ sectionTables records section n m =
       transitions = map transitionOf (parts 4 (length section / 4) section);
     }
 
--- an array of 16 sets that holds, for each of n components, what `of` says
-pub record Alphabets (of : ℕ → ℕ) (n : ℕ) (l : List ℕ) : Type 0 where
+-- an array of 16 sets, the first n of them the alphabets of the n components of T
+pub record Alphabets (T : Tables) (n : ℕ) (l : List ℕ) : Type 0 where
   pub size : length l ≡ 16
-  pub each : (j : ℕ) → j < n → getD l j 0 ≡ of j
+  pub count : n ≡ T .components
+  pub each : (j : ℕ) → j < n → getD l j 0 ≡ T .alphabet j

@@ -28,19 +28,23 @@ ofFault (just f) = refused (f .number) (f .index)
 unfoldable pub stepsVerdict : List ℕ → Verdict
 stepsVerdict b = ofFault (firstFault (tables b) (start (tables b)) 0 (steps b))
 
--- "The lowest number whose condition holds is given, and only then"
-unfoldable pub verdict : List ℕ → Verdict
-verdict b =
-    refuseIf (lengthWrong b) 1
-    (refuseIf (markWrong b) 2
-    (refuseIf (countsWrong b) 3
-    (refuseIf (offsetsWrong b) 4
-    (refuseIf (recordsWrong b) 5
+-- refusals 1 to 4 in the printed order, those of the trailer; then v
+abbrev pub trailerVerdict : List ℕ → Verdict → Verdict
+trailerVerdict b v = refuseIf (lengthWrong b) 1 (refuseIf (markWrong b) 2 (refuseIf (countsWrong b) 3 (refuseIf (offsetsWrong b) 4 v)))
+
+-- refusals 5 to 9 in the printed order, those of the tables and the count of actions; then v
+abbrev pub tablesVerdict : List ℕ → Verdict → Verdict
+tablesVerdict b v =
+    refuseIf (recordsWrong b) 5
     (refuseIf (actionUnused b) 6
     (refuseIf (transitionsWrong b) 7
     (refuseIf (orderWrong b) 8
     (refuseIf (tooManyActions b) 9
-    (stepsVerdict b)))))))))
+    v))))
+
+-- the first refusal in the printed order, or accepted where there is none (document 01, "Refusal list")
+unfoldable pub verdict : List ℕ → Verdict
+verdict b = trailerVerdict b (tablesVerdict b (stepsVerdict b))
 
 -- What the verdict is to be, said by the conditions alone.
 pub data IsVerdict (b : List ℕ) : Verdict → Type 0 where

@@ -4,13 +4,13 @@ use mathlib.Core.Path.{_≡_, refl, sym, ap, _∙_}
 use mathlib.Core.Logic.{_↔_}
 use mathlib.Core.Bool.{Bool, true, false}
 use mathlib.Core.List.{List, [], _∷_}
-use mathlib.Core.Option.{none, some as just}
+use mathlib.Core.Option.{Option, none, some as just}
 use Prim.Native.Nat.{ℕ, zero, suc, _+_, _<_}
 use native.Mathlib.Omega.{arith}
 use lib.ListN.{length, getD}
 use Rattle.sets.proofs.Bools.{clash}
 use Rattle.traces.specs.Steps.{follows, FollowFrom, Process}
-use Rattle.traces.specs.Offences.{offenceOr, offenceFrom, firstOffence, IsFirstOffence}
+use Rattle.traces.specs.Offences.{offenceOr, offenceFrom, firstOffence, offending, IsFirstOffence}
 
 -- the offence k steps behind s
 record At (dep : ℕ → ℕ → Bool) (s : List ℕ) (ts : List (List ℕ)) (k : ℕ) : Type 0 where
@@ -78,3 +78,13 @@ module _ (dep : ℕ → ℕ → Bool) where
     λ f. let g = f .index in let b = f .step-below in
         just-from s 1 ss (f .before) (record { fits = omega arith; offends = f .offends; earlier = f .no-earlier }) ∙ ap just (omega arith),
   )
+
+-- ---- the answer as one number
+
+pub offending-none : (o : Option ℕ) → (offending o ≡ 0) ↔ (o ≡ none)
+offending-none none = (λ e. refl, λ e. refl)
+offending-none (just i) = (λ e. absurd (omega arith), λ e. let z : _≡_ {A = ℕ} 0 1 = cc in absurd (omega arith))
+
+pub offending-just : (o : Option ℕ) (i : ℕ) → (offending o ≡ i + 1) ↔ (o ≡ just i)
+offending-just none i = (λ e. absurd (omega arith), λ e. let z : _≡_ {A = ℕ} 0 1 = cc in absurd (omega arith))
+offending-just (just k) i = (λ e. ap just (omega arith), λ e. let same : k ≡ i = cc in omega arith)

@@ -24,9 +24,9 @@ module _ (d : ℕ → ℕ → Bool) (S : ℕ → ℕ → Type 0) (exact : (a b :
   other-way a b (inl e) = inl (sym e)
   other-way a b (inr s) = inr (turn a b s)
 
-  turned : (a b : ℕ) → d a b ≡ true → d b a ≡ true
-  turned a b h = exact b a .1 (other-way a b (exact a b .0 h))
+  flipped : (a b : ℕ) → d a b ≡ true → d b a ≡ true
+  flipped a b h = exact b a .1 (other-way a b (exact a b .0 h))
 
   pub sharing-dependence : Dependence d
   sharing-dependence =
-      record { reflexive = λ a. exact a a .1 (inl refl); symmetric = λ a b. iff-bool (d a b) (d b a) (turned a b, turned b a) }
+      record { reflexive = λ a. exact a a .1 (inl refl); symmetric = λ a b. iff-bool (d a b) (d b a) (flipped a b, flipped b a) }

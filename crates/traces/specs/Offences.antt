@@ -4,7 +4,7 @@ use mathlib.Core.Path.{_≡_}
 use mathlib.Core.Bool.{Bool, true, false}
 use mathlib.Core.List.{List, [], _∷_}
 use mathlib.Core.Option.{Option, none, some as just}
-use Prim.Native.Nat.{ℕ, suc, _<_}
+use Prim.Native.Nat.{ℕ, suc, _+_, _<_}
 use lib.ListN.{length, getD}
 use Rattle.traces.specs.Steps.{follows}
 
@@ -20,6 +20,11 @@ offenceFrom dep s i (t ∷ ts) = offenceOr (follows dep s t) i (offenceFrom dep 
 abbrev pub firstOffence : (ℕ → ℕ → Bool) → List (List ℕ) → Option ℕ
 firstOffence dep [] = none
 firstOffence dep (s ∷ ss) = offenceFrom dep s 1 ss
+
+-- the answer as one number: 0 where no step offends, else one past the index of the first that does (document 01, process condition)
+abbrev pub offending : Option ℕ → ℕ
+offending none = 0
+offending (just i) = i + 1
 
 -- what the index found is to be: that step does not follow the one just before, and every earlier one does
 pub record IsFirstOffence (dep : ℕ → ℕ → Bool) (ss : List (List ℕ)) (i : ℕ) : Type 0 where

@@ -15,7 +15,7 @@ use Rattle.sets.proofs.Lists.{concat-append}
 use Rattle.sheet.specs.Numbers.{bytes}
 use Rattle.sheet.specs.Writing.{stepBytes}
 use Rattle.sheet.proofs.Numbers.{length-numbers}
-use Rattle.writing.specs.Sections.{over}
+use Rattle.sets.specs.Lists.{over}
 
 -- one section behind another
 over-both : (p q X : List ℕ) → p ++ over q (drop (length p) X) ≡ over (p ++ q) X

@@ -6,7 +6,7 @@ ghost use lib.ListN.{length, take};
 ghost use Rattle.sheet.specs.Numbers.{bytes};
 ghost use Rattle.sheet.specs.Layout.{mark};
 ghost use Rattle.sheet.specs.Writing.{stepBytes, trailer, sheetOf};
-ghost use Rattle.writing.specs.Sections.{over};
+ghost use Rattle.sets.specs.Lists.{over};
 
 // Writes the two bytes of a number, least significant first.
 fn put2(x: u64, out: &mut [u8])

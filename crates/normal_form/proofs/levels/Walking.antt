@@ -12,22 +12,23 @@ use lib.Seq.{getD-set-same, getD-set-other}
 use Rattle.sets.specs.Bits.{member, members}
 use Rattle.sets.proofs.Bools.{true-or-false, clash, false-iff}
 use Rattle.sets.proofs.Members.{member-zero, member-lt, members-mem, members-zero}
-use Rattle.dependence.proofs.owners.Entering.{lowest-or-rest}
-use Rattle.normal_form.specs.levels.Levels.{largest, Marked}
+use Rattle.dependence.proofs.participants.Entering.{lowest-or-rest}
+use Rattle.dependence.specs.participants.Levels.{largest}
+use Rattle.normal_form.specs.levels.Levels.{LevelsRaised}
 
 -- the first component of a set
 pub first-below : (x r : ℕ) (rest : List ℕ) → x < 2 ^ 16 → members x ≡ r ∷ rest → r < 16
 first-below x r rest h e = member-lt 16 x r h (members-mem x r .0 (rw e (List·Memᴰ·head refl)) .1)
 
--- no component is left to mark
-pub marked-none : (left level : ℕ) (last : List ℕ) → left ≡ 0 → Marked left level last last
-marked-none left level last e =
+-- no component is left
+pub raised-none : (left level : ℕ) (last : List ℕ) → left ≡ 0 → LevelsRaised left level last last
+raised-none left level last e =
     record { has = λ j h m. absurd (clash m (ap (λ (x : ℕ). member x j) e ∙ member-zero j)); others = λ j h m. refl }
 
--- the first component was marked, and then the rest
-pub marked-more : (left low rest level : ℕ) (last after : List ℕ) → low < length last → members left ≡ low ∷ members rest
-    → Marked rest level (set last low (level + 1)) after → Marked left level last after
-marked-more left low rest level last after fits first M =
+-- the first component was entered, and then the rest
+pub raised-more : (left low rest level : ℕ) (last after : List ℕ) → low < length last → members left ≡ low ∷ members rest
+    → LevelsRaised rest level (set last low (level + 1)) after → LevelsRaised left level last after
+raised-more left low rest level last after fits first M =
     record {
       has = λ j h m. has j h (parts j h .0 m) (true-or-false (member rest j));
       others = λ j h m. others j h (λ t. clash (parts j h .1 t) m);

@@ -1,33 +1,31 @@
--- `packing::pack` meets its contract. The loop's invariant: the actions of the steps from k on are still to be placed.
+-- `normal_form::pack` meets its contract. The loop's invariant: the actions of the steps from k on are still to be placed.
 -- The measure is what is left of the steps. Assumes nothing.
-use mathlib.Core.Path.{sym, ap, _∙_}
-use mathlib.Core.List.{map}
-use Prim.Native.Nat.{ℕ, _-_, _/_, _≤_}
+use mathlib.Core.Path.{sym, _∙_}
+use Prim.Native.Nat.{_-_, _/_, _≤_}
 use native.Mathlib.Omega.{arith}
-use lib.ListN.{length, drop, length-replicate}
+use lib.ListN.{length, drop}
 use Rattle.sets.specs.Bits.{members}
 use Rattle.systems.specs.Checking.{flat}
-use Rattle.sheet.specs.Numbers.{number, parts}
-use Rattle.normal_form.specs.placing.Placing.{dependentOn}
-use Rattle.normal_form.proofs.placing.Showing.{Remaining, remaining-none, part-known, part-bounded, remaining-rest}
-use Rattle.normal_form.specs.Packed.{Packed}
-use Rattle.normal_form.proofs.Sections.{flat-step, flat-none, remaining-all}
+use Rattle.sheet.specs.Sections.{stepsIn}
+use Rattle.sheet.proofs.Sections.{flat-step, flat-none}
+use Rattle.normal_form.proofs.placing.Showing.{Remaining, remaining-none, part-room, remaining-rest}
+use Rattle.normal_form.proofs.Packing.{Packs, remaining-all}
 use Rattle.normal_form.proofs.pack.Statement.{statement}
 use Rattle.normal_form.proofs.pack.Tie as tie
 
 abbrev Inv-loop : tie.InvT-loop
-Inv-loop section owners packed₀ count last₀ steps₀ k₀ packed last steps k =
+Inv-loop section participants packed₀ count last₀ steps₀ k₀ packed last steps k =
     (k ≤ length section / 8)
-    × Remaining owners (flat (drop k (map number (parts 8 (length section / 8) section)))) last packed steps
-    (λ last′ packed′ count′. Packed (dependentOn owners) (flat (map number (parts 8 (length section / 8) section))) packed′ count′)
+    × Remaining participants (flat (drop k (stepsIn section))) last packed steps
+    (λ last′ packed′ count′. Packs participants (flat (stepsIn section)) packed₀ packed′ count′)
 
 abbrev μ-loop : tie.MeasureT-loop
-μ-loop section owners packed₀ count last₀ steps₀ k₀ packed last steps k = count - k
+μ-loop section participants packed₀ count last₀ steps₀ k₀ packed last steps k = count - k
 
 loop-holds : tie.Need-loop-holds Inv-loop μ-loop
 loop-holds c =
     let start = c .before .before .before in
-    (omega arith, remaining-all _ _ (start .args .packed .now) (start .pre .1) (start .pre .3) (start .pre .2))
+    (omega arith, remaining-all _ _ (start .args .packed .now) (start .pre .1) (start .pre .2))
 
 step-at-requires : tie.Need-step-at-requires Inv-loop μ-loop
 step-at-requires c κs = omega arith
@@ -41,13 +39,12 @@ place-step-requires c κs =
     let b = start .args .section .now in
     let turn = c .before .before .before .before .loop in
     let step = c .before .before .step-at in
-    let e = flat-step 8 (length b / 8) b (turn .k) (step .result) (c .before .before .before .loop-test .taken) (step .ensures) in
+    let e = flat-step b (turn .k) (step .result) (c .before .before .before .loop-test .taken) (step .ensures) in
     let R = turn .inv .1 in (
       start .pre .0,
       R .last-size,
       R .packed-size,
-      part-known _ _ _ _ _ _ (members (step .result)) _ e R,
-      part-bounded _ _ _ _ _ _ (members (step .result)) _ e R,
+      part-room _ _ _ _ _ _ (members (step .result)) _ e R,
     )
 
 add-k : tie.Need-add-k Inv-loop μ-loop
@@ -61,7 +58,7 @@ loop-again c =
     let b = c .before .before .before .before .before .before .before .before .before .before .before .before .args .section .now in
     let turn = c .before .before .before .before .before .before .before .before .loop in
     let step = c .before .before .before .before .before .before .step-at in
-    let e = flat-step 8 (length b / 8) b (turn .k) (step .result) (c .before .before .before .before .before .before .before .loop-test .taken) (step .ensures) in
+    let e = flat-step b (turn .k) (step .result) (c .before .before .before .before .before .before .before .loop-test .taken) (step .ensures) in
     let placed = c .before .before .before .place-step in (
       omega arith,
       remaining-rest _ _ _ _ _ _ (members (step .result)) _ e (turn .inv .1) _ _ _ (placed .ensures) (placed .kept .1 .1 .1 .0)
@@ -70,12 +67,12 @@ loop-again c =
 
 same-length : tie.Need-same-length Inv-loop μ-loop
 same-length c =
-    c .before .loop .inv .1 .packed-size ∙ sym (ap length (c .before .before .before .before .before .pre .1) ∙ length-replicate {A = ℕ} 1024 0)
+    c .before .loop .inv .1 .packed-size ∙ sym (c .before .before .before .before .before .pre .1)
 
 returns : tie.Need-returns Inv-loop μ-loop
 returns c =
     let b = c .before .before .before .before .before .args .section .now in
-    remaining-none _ _ _ _ _ _ (flat-none 8 (length b / 8) b (c .before .loop .k) (c .loop-test .left)) (c .before .loop .inv .1)
+    remaining-none _ _ _ _ _ _ (flat-none b (c .before .loop .k) (c .loop-test .left)) (c .before .loop .inv .1)
 
 pub pack-spec : {M : Type 1} → statement M
 pack-spec =

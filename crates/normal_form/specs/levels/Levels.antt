@@ -1,18 +1,17 @@
--- For each component one past the last step that has an action of it, in a list.
+-- For each component one past the last step that has an action of it, in a list: raised for the participants of an action, and with room left.
 -- Assumes nothing.
 use mathlib.Core.Path.{_≡_}
 use mathlib.Core.Bool.{true, false}
-use mathlib.Core.List.{List, [], _∷_}
-use Prim.Native.Nat.{ℕ, suc, _<_, max}
+use mathlib.Core.List.{List}
+use Prim.Native.Nat.{ℕ, suc, _+_, _≤_, _<_}
 use lib.ListN.{getD}
 use Rattle.sets.specs.Bits.{member}
 
--- the largest entry over the components of a list
-abbrev pub largest : List ℕ → List ℕ → ℕ
-largest last [] = 0
-largest last (j ∷ js) = max (getD last j 0) (largest last js)
-
 -- the entries of `last` after an action at a level: one past it for the components of a set, the others as they were
-pub record Marked (mine level : ℕ) (before after : List ℕ) : Type 0 where
+pub record LevelsRaised (mine level : ℕ) (before after : List ℕ) : Type 0 where
   pub has : (j : ℕ) → j < 16 → member mine j ≡ true → getD after j 0 ≡ suc level
   pub others : (j : ℕ) → j < 16 → member mine j ≡ false → getD after j 0 ≡ getD before j 0
+
+-- 1,024 steps have room for k more actions, wherever they are placed (document 01, the limits)
+abbrev pub Room : List ℕ → ℕ → Type 0
+Room last k = (j : ℕ) → j < 16 → getD last j 0 + k ≤ 1024

@@ -11,6 +11,7 @@ use lib.Seq.{getD-set-same, getD-set-other}
 use borrow.Author.Needs.{needs}
 use Rattle.sheet.specs.Numbers.{field}
 use Rattle.sheet.specs.Layout.{alphabetOf}
+use Rattle.sheet.proofs.Sections.{alphabets-made}
 use Rattle.reading.proofs.alphabets.Statement.{statement}
 use Rattle.reading.proofs.alphabets.Tie as tie
 
@@ -51,7 +52,8 @@ loop-again c =
 returns : tie.Need-returns Inv-loop μ-loop
 returns c =
     let l = c .before .loop in
-    record { size = l .inv .1; each = λ k b. l .inv .2 k (omega arith) }
+    let a = c .before .before .before .before .args in
+    λ m. alphabets-made (a .records .now) (a .n) m (l .found) (l .inv .1) (λ k b. l .inv .2 k (omega arith))
 
 pub alphabets-spec : {M : Type 1} → statement M
 alphabets-spec =

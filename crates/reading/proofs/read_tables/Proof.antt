@@ -1,143 +1,199 @@
 -- `reading::read_tables` meets its contract: where the trailer passed, the checkers' answers on the parts are the sheet's refusals 5 to 9, and
 -- the alphabets of the records are those of the bytes before the steps.
 -- Assumes nothing.
-use mathlib.Core.Path.{_≡_, sym, ap, _∙_}
-use mathlib.Core.Bool.{Bool}
+use mathlib.Core.Path.{_≡_, ap, _∙_}
+use mathlib.Core.Bool.{false}
 use mathlib.Core.List.{List}
 use Prim.Native.Nat.{ℕ}
 use native.Mathlib.Omega.{arith}
-use lib.ListN.{length}
 use borrow.Author.Needs.{needs}
-use Rattle.systems.specs.Checking.{flat}
-use Rattle.sheet.specs.Layout.{steps}
-use Rattle.sheet.specs.Refusals.{tooManyActions}
-use Rattle.reading.specs.trailer.Numbered.{numberIf}
-use Rattle.reading.specs.Tests.{tablesRefusal}
-use Rattle.reading.proofs.Sections.{steps-part}
-use Rattle.reading.proofs.Passing.{Read, trailer-read, read-sectioned, records-long, steps-short, read-alphabets, numberOr, number-or, refusal-number, count-refused, count-passed}
+use lib.Dec.{ltb}
+use Rattle.sets.proofs.Bools.{ltb-true, ltb-false}
+use Rattle.sheet.specs.Refusals.{recordsWrong, actionUnused, transitionsWrong, orderWrong, tooManyActions}
+use Rattle.sheet.specs.Verdict.{accepted}
+use Rattle.answers.specs.declared.Sizes.{Sizes}
+use Rattle.answers.specs.declared.Answer.{Answer}
+use Rattle.answers.specs.declared.Answer.the-variants.{Accepted, Refused}
+use Rattle.answers.specs.Outcomes.{refused, outcomeOf, readOutcome}
+use Rattle.reading.proofs.Passing.{TrailerRead, trailer-read, trailer-then}
+use Rattle.reading.proofs.Sections.{records-long, steps-short, alphabets-part, records-told, actions-told, transitions-told, order-told, count-told}
 use Rattle.reading.proofs.read_tables.Statement.{statement}
 use Rattle.reading.proofs.read_tables.Tie as tie
 
 abbrev sheet-at : tie.Start → List ℕ
 sheet-at c = c .args .sheet .now
 
-read-at : (c : tie.Start) → Read (sheet-at c) (c .args .n) (c .args .m) (c .args .t) (c .args .s)
-read-at c = trailer-read (sheet-at c) (c .args .n) (c .args .m) (c .args .t) (c .args .s) (c .pre .0)
+read-at : (c : tie.Start) → TrailerRead (sheet-at c) (c .args .sizes)
+read-at c = trailer-read (c .pre .0)
 
-sub-end : tie.Need-sub-end
-sub-end c = let r = read-at (c .before .before) in omega arith
+-- ---- 5
 
-part-tables-refused-end : tie.Need-part-tables-refused-end
-part-tables-refused-end c = let r = read-at (c .before .before) in omega arith
-
-sub-tables-refused-2 : tie.Need-sub-tables-refused-2
-sub-tables-refused-2 c = let r = read-at (c .before .before .before) in omega arith
-
-part-tables-refused-start-2 : tie.Need-part-tables-refused-start-2
-part-tables-refused-start-2 c = let r = read-at (c .before .before .before) in omega arith
-
-part-tables-refused-end-2 : tie.Need-part-tables-refused-end-2
-part-tables-refused-end-2 c = let r = read-at (c .before .before .before) in omega arith
-
-tables-refused-requires : tie.Need-tables-refused-requires
-tables-refused-requires c κs =
-    let s = c .before .before .before .before .before in
+records-wrong-requires : tie.Need-records-wrong-requires
+records-wrong-requires c κs =
+    let s = c .before .before .before .before in
     let r = read-at s in
-    (omega arith, omega arith, omega arith, records-long (sheet-at s) (s .args .n) (s .args .m) (s .args .t) (s .args .s) r, s .pre .1)
+    (omega arith, omega arith, records-long r)
 
--- ---- after refusals 5 to 8
+abbrev start-at : tie.After-records-wrong → tie.Start
+start-at c = c .before .before .before .before .before
 
-abbrev start-at : tie.After-tables-refused → tie.Start
-start-at c = c .before .before .before .before .before .before
+bad-records : (c : tie.After-records-wrong) → recordsWrong (sheet-at (start-at c)) ≡ c .records-wrong .result
+bad-records c = records-told (read-at (start-at c)) (c .records-wrong .ensures)
 
-abbrev found : tie.After-tables-refused → List ℕ
-found c = c .tables-refused .last .1 .1 .1 .1 .0
-
--- the number of 5 to 8, and where it is 0 that of 9
-refusal-at : (c : tie.After-tables-refused)
-    → tablesRefusal (sheet-at (start-at c)) ≡ numberOr (c .tables-refused .result) (numberIf (tooManyActions (sheet-at (start-at c))) 9 0)
-refusal-at c =
-    let s = start-at c in
-    refusal-number (sheet-at s) (s .args .n) (s .args .m) (s .args .t) (s .args .s) (read-at s) (c .tables-refused .result)
-    (c .tables-refused .ensures .0)
+-- a refusal, which tells no sizes
+stopped : {r : Answer} {k : ℕ} {z : Sizes} {A : Type 0} → r ≡ Refused k 0 0 → (outcomeOf r ≡ refused k 0 0) × (r ≡ Accepted z → A)
+stopped e = (ap outcomeOf e, λ f. let n : _≡_ {A = ℕ} 0 1 = cc in absurd (omega arith))
 
 returns : tie.Need-returns
-returns c =
-    let tested = c .before .before .before in (
-      sym (refusal-at tested ∙ number-or (tested .tables-refused .result) _ (c .if1 .taken)),
-      λ z. absurd (c .if1 .taken z),
-    )
+returns c = rw (bad-records (c .before .before) ∙ c .before .if1 .taken) (stopped (c .refuse .ensures))
 
--- ---- where none of 5 to 8 holds
+records-passed : (c : tie.Else1) → recordsWrong (sheet-at (start-at (c .before))) ≡ false
+records-passed c = bad-records (c .before) ∙ c .if1 .left
 
-abbrev tested-at : tie.Else1 → tie.After-tables-refused
-tested-at c = c .before .before .before
+-- ---- 6
 
-sub-actions-in : tie.Need-sub-actions-in
-sub-actions-in c = let r = read-at (start-at (tested-at c)) in omega arith
-
-part-actions-in-start : tie.Need-part-actions-in-start
-part-actions-in-start c = let r = read-at (start-at (tested-at c)) in omega arith
-
-actions-in-requires : tie.Need-actions-in-requires
-actions-in-requires c κs =
-    let s = start-at (tested-at (c .before)) in
-    steps-short (sheet-at s) (s .args .n) (s .args .m) (s .args .t) (s .args .s) (read-at s)
-
-abbrev counted-at : tie.After-actions-in → tie.Start
-counted-at c = start-at (tested-at (c .before .before))
-
-count-at : (c : tie.After-actions-in) → c .actions-in .result ≡ length (flat (steps (sheet-at (counted-at c))))
-count-at c =
-    let s = counted-at c in
+alphabets-requires : tie.Need-alphabets-requires
+alphabets-requires c κs =
+    let s = start-at (c .before .before) in
     let r = read-at s in
-    c .actions-in .ensures
-    ∙ ap (λ (l : List ℕ). length (flat l))
-    (steps-part (sheet-at s) (read-sectioned (sheet-at s) (s .args .n) (s .args .m) (s .args .t) (s .args .s) r) (s .args .s) (r .s-read))
+    (omega arith, records-long r, s .pre .1)
 
--- 9 alone is left
-counted : (c : tie.After-actions-in) (w : Bool) → tooManyActions (sheet-at (counted-at c)) ≡ w → tablesRefusal (sheet-at (counted-at c)) ≡ numberIf w 9 0
-counted c w e =
-    let passed = c .before .before in
-    refusal-at (tested-at passed)
-    ∙ ap (λ (x : ℕ). numberOr x (numberIf (tooManyActions (sheet-at (counted-at c))) 9 0)) (passed .if1 .left)
-    ∙ ap (λ (v : Bool). numberIf v 9 0) e
+abbrev filled-at : tie.After-alphabets → tie.Start
+filled-at c = start-at (c .before .before .before)
+
+action-unused-requires : tie.Need-action-unused-requires
+action-unused-requires c κs =
+    let k = c .before .before .before .before in
+    let r = read-at (filled-at k) in
+    let size = k .alphabets .ensures 0 .size in
+    (omega arith, omega arith)
+
+abbrev alphabets-at : tie.After-action-unused → tie.After-alphabets
+alphabets-at c = c .before .before .before .before .before
+
+abbrev right-at : tie.After-action-unused → tie.Else1
+right-at c = alphabets-at c .before .before
+
+unused : (c : tie.After-action-unused) → actionUnused (sheet-at (filled-at (alphabets-at c))) ≡ c .action-unused .result
+unused c = let k = alphabets-at c in actions-told (read-at (filled-at k)) (k .alphabets .ensures _) (c .action-unused .ensures)
 
 returns-2 : tie.Need-returns-2
 returns-2 c =
-    let k = c .before in
-    (sym (counted k _ (count-refused (sheet-at (counted-at k)) (k .actions-in .result) (count-at k) (c .if2 .taken))), λ z. absurd (omega arith))
+    let k = c .before .before in
+    rw (records-passed (right-at k), unused k ∙ c .before .if2 .taken) (stopped (c .refuse2 .ensures))
+
+actions-passed : (c : tie.Else2) → actionUnused (sheet-at (filled-at (alphabets-at (c .before)))) ≡ false
+actions-passed c = unused (c .before) ∙ c .if2 .left
+
+-- ---- 7
+
+transitions-wrong-requires : tie.Need-transitions-wrong-requires
+transitions-wrong-requires c κs =
+    let k = alphabets-at (c .before .before) in
+    let s = filled-at k in
+    let r = read-at s in
+    (omega arith, omega arith, records-long r, k .alphabets .ensures 0)
+
+abbrev used-at : tie.After-transitions-wrong → tie.Else2
+used-at c = c .before .before
+
+bad-transitions : (c : tie.After-transitions-wrong) → transitionsWrong (sheet-at (filled-at (alphabets-at (used-at c .before)))) ≡ c .transitions-wrong .result
+bad-transitions c = transitions-told (read-at (filled-at (alphabets-at (used-at c .before)))) (c .transitions-wrong .ensures)
 
 returns-3 : tie.Need-returns-3
 returns-3 c =
+    let k = c .before .before in
+    let u = used-at k in
+    rw (records-passed (right-at (u .before)), actions-passed u, bad-transitions k ∙ c .before .if3 .taken) (stopped (c .refuse3 .ensures))
+
+transitions-passed : (c : tie.Else3) → transitionsWrong (sheet-at (filled-at (alphabets-at (used-at (c .before) .before)))) ≡ false
+transitions-passed c = bad-transitions (c .before) ∙ c .if3 .left
+
+-- ---- 8
+
+abbrev fit-at : tie.After-order-wrong → tie.Else3
+fit-at c = c .before
+
+abbrev ordered-at : tie.After-order-wrong → tie.Start
+ordered-at c = filled-at (alphabets-at (used-at (fit-at c .before) .before))
+
+disordered : (c : tie.After-order-wrong) → orderWrong (sheet-at (ordered-at c)) ≡ c .order-wrong .result
+disordered c = order-told (read-at (ordered-at c)) (c .order-wrong .ensures)
+
+returns-4 : tie.Need-returns-4
+returns-4 c =
+    let k = c .before .before in
+    let t = fit-at k in
+    let u = used-at (t .before) in
+    rw (records-passed (right-at (u .before)), actions-passed u, transitions-passed t, disordered k ∙ c .before .if4 .taken)
+    (stopped (c .refuse4 .ensures))
+
+order-passed : (c : tie.Else4) → orderWrong (sheet-at (ordered-at (c .before))) ≡ false
+order-passed c = disordered (c .before) ∙ c .if4 .left
+
+-- ---- 9
+
+abbrev rising-at : tie.After-actions-in → tie.Else4
+rising-at c = c .before .before
+
+too-many : (c : tie.After-actions-in) → tooManyActions (sheet-at (ordered-at (rising-at c .before))) ≡ ltb 1024 (c .actions-in .result)
+too-many c = count-told (read-at (ordered-at (rising-at c .before))) (c .actions-in .ensures)
+
+returns-5 : tie.Need-returns-5
+returns-5 c =
+    let k = c .before .before in
+    let o = rising-at k in
+    let t = fit-at (o .before) in
+    let u = used-at (t .before) in
+    let e = too-many k ∙ ltb-true 1024 (k .actions-in .result) .1 (c .before .if5 .taken) in
+    rw (records-passed (right-at (u .before)), actions-passed u, transitions-passed t, order-passed o, e) (stopped (c .refuse5 .ensures))
+
+returns-6 : tie.Need-returns-6
+returns-6 c =
     let k = c .before in
-    let s = counted-at k in
-    let passed = k .before .before in
-    let tested = tested-at passed in (
-      sym (counted k _ (count-passed (sheet-at s) (k .actions-in .result) (count-at k) (c .if2 .left))),
-      λ z. read-alphabets (sheet-at s) (s .args .n) (s .args .m) (s .args .t) (s .args .s) (read-at s) (found tested)
-          (tested .tables-refused .ensures .1 (passed .if1 .left)),
-    )
+    let o = rising-at k in
+    let t = fit-at (o .before) in
+    let u = used-at (t .before) in
+    let a = alphabets-at (u .before) in
+    let s = filled-at a in
+    let e = too-many k ∙ ltb-false 1024 (k .actions-in .result) .1 (c .if5 .left) in
+    rw (records-passed (right-at (u .before)), actions-passed u, transitions-passed t, order-passed o, e)
+    (s .pre .0 ∙ ap (readOutcome (sheet-at s)) (trailer-then (read-at s) accepted), λ f. alphabets-part (read-at s) (a .alphabets .ensures _))
 
 pub read-tables-spec : {M : Type 1} → statement M
 read-tables-spec =
     tie.close
     (tie.spec
-    sub-end
+    (λ c. let r = read-at (c .before .before) in omega arith)
     (λ c. search needs)
     (λ c. search needs)
-    part-tables-refused-end
-    sub-tables-refused-2
-    part-tables-refused-start-2
-    part-tables-refused-end-2
-    tables-refused-requires
-    (λ c. search needs)
+    (λ c. let r = read-at (c .before .before) in omega arith)
+    (λ c. let r = read-at (c .before .before .before) in omega arith)
+    (λ c. let r = read-at (c .before .before .before) in omega arith)
+    (λ c. let r = read-at (c .before .before .before) in omega arith)
+    records-wrong-requires
+    (λ c κs. search needs)
     returns
-    sub-actions-in
-    part-actions-in-start
-    (λ c. search needs)
-    actions-in-requires
+    alphabets-requires
+    (λ c. let r = read-at (filled-at (c .before .before .before .before)) in omega arith)
+    action-unused-requires
+    (λ c κs. search needs)
     (λ c. search needs)
     returns-2
+    transitions-wrong-requires
+    (λ c κs. search needs)
     (λ c. search needs)
-    returns-3)
+    returns-3
+    (λ c κs. search needs)
+    (λ c κs. search needs)
+    (λ c. search needs)
+    returns-4
+    (λ c. let r = read-at (ordered-at (c .before)) in omega arith)
+    (λ c. let r = read-at (ordered-at (c .before)) in omega arith)
+    (λ c. search needs)
+    (λ c κs. steps-short (read-at (ordered-at (c .before .before))))
+    (λ c κs. search needs)
+    (λ c. search needs)
+    returns-5
+    (λ c. search needs)
+    returns-6)

@@ -1,9 +1,22 @@
 -- `reading::sizes` meets its contract: the numbers are those that stand in the trailer.
 -- Assumes nothing.
-use Rattle.reading.proofs.Passing.{sizes-read}
+use mathlib.Core.Path.{_≡_}
+use mathlib.Core.List.{List, [], _∷_}
+use Prim.Native.Nat.{ℕ, _-_}
+use lib.ListN.{length, getD}
 use borrow.Author.Needs.{needs}
+use Rattle.sheet.specs.Numbers.{field}
+use Rattle.sheet.specs.Layout.{transitionsAt, stepsAt}
+use Rattle.sheet.specs.Verdict.{accepted}
+use Rattle.answers.specs.Outcomes.{given, readOutcome}
+use Rattle.reading.proofs.trailer.Trailer.{components-read, actions-read}
 use Rattle.reading.proofs.sizes.Statement.{statement}
 use Rattle.reading.proofs.sizes.Tie as tie
+
+sizes-read : (b : List ℕ) (n m t s : ℕ) → n ≡ getD b (length b - 4) 0 → m ≡ getD b (length b - 3) 0
+    → t ≡ field (length b - 8) 2 b → s ≡ field (length b - 6) 2 b → given (n ∷ m ∷ t ∷ s ∷ []) ≡ readOutcome b accepted
+unfolding transitionsAt stepsAt
+sizes-read b n m t s p q r o = cc (components-read b, actions-read b)
 
 returns : tie.Need-returns
 returns c =

@@ -1,19 +1,16 @@
--- What each refusal of the trailer says of the bytes that stand there, and what is known where none holds.
+-- What refusals 2 and 3 say of the bytes that stand in the trailer.
 -- Assumes nothing.
 use mathlib.Core.Path.{_≡_, refl, sym, ap, ap₂, _∙_}
 use mathlib.Core.Bool.{Bool, true, false, not, _&&_, _||_}
 use mathlib.Core.List.{List, [], _∷_}
-use Prim.Native.Nat.{ℕ, suc, _-_, _*_, _%_, _≤_}
+use Prim.Native.Nat.{ℕ, suc, _-_, _≤_}
 use native.Mathlib.Omega.{arith}
-use lib.Dec.{ltb, eqb}
+use lib.Dec.{eqb}
 use lib.ListN.{length, drop, getD}
 use lib.Seq.{drop-cons, drop-length}
-use Rattle.sheet.specs.Numbers.{field}
-use Rattle.sheet.specs.Layout.{recordsAt, transitionsAt, stepsAt, componentCount, actionCount, closing, mark}
-use Rattle.sheet.specs.Refusals.{outside, sameBytes, lengthWrong, markWrong, countsWrong, offsetsWrong}
+use Rattle.sheet.specs.Layout.{componentCount, actionCount, closing, mark}
+use Rattle.sheet.specs.Refusals.{outside, sameBytes, markWrong, countsWrong}
 use Rattle.sheet.proofs.Numbers.{field-one}
-use Rattle.sheet.proofs.Limits.{length-right}
-use Rattle.reading.specs.trailer.Numbered.{numberIf, trailerNumber}
 
 -- ---- 2
 
@@ -60,29 +57,3 @@ pub counts-read : (b : List ℕ) (n m : ℕ) → n ≡ getD b (length b - 4) 0 �
 unfolding countsWrong
 counts-read b n m p q =
     ap₂ (λ (i j : ℕ). outside 1 16 i || outside 1 64 j) (components-read b ∙ sym p) (actions-read b ∙ sym q)
-
--- ---- 4
-
--- r is what the test of the offsets alone answers
-pub offsets-read : (b : List ℕ) (c t s n : ℕ) (r : Bool) → c ≡ field (length b - 10) 2 b → t ≡ field (length b - 8) 2 b
-    → s ≡ field (length b - 6) 2 b → n ≡ getD b (length b - 4) 0
-    → r
-    ≡ (not (eqb c 0) || not (eqb t (16 * n)) || outside t (length b - 10) s
-    || not (eqb ((s - t) % 4) 0) || ltb 8192 (s - t)
-    || not (eqb ((length b - 10 - s) % 8) 0) || ltb 8192 (length b - 10 - s))
-    → offsetsWrong b ≡ r
-unfolding offsetsWrong recordsAt transitionsAt stepsAt
-offsets-read b c t s n r p q o m e = sym (rw (p, q, o, m ∙ sym (components-read b)) at e)
-
--- ---- where none holds
-
-known : (p q r s : Bool) → numberIf p 1 (numberIf q 2 (numberIf r 3 (numberIf s 4 0))) ≡ 0 → p ≡ false
-known true q r s e = absurd (omega arith)
-known false q r s e = refl
-
-pub long-enough : (b : List ℕ) → lengthWrong b ≡ false → 26 ≤ length b
-long-enough b e = length-right b .0 e .0
-
-pub passed-long : (b : List ℕ) → trailerNumber b ≡ 0 → 26 ≤ length b
-unfolding trailerNumber
-passed-long b e = long-enough b (known (lengthWrong b) (markWrong b) (countsWrong b) (offsetsWrong b) e)

@@ -86,9 +86,6 @@ less-from u (d ∷ x) (f ∷ y) h g e =
         ap₂ (λ (t w : Bool). t || (w && lessBytes x y)) (le-ltb d f (omega arith)) (ne-eqb d f (λ s. omega arith))
         ∙ sym (le-ltb (heavyFrom (256 * u + d) x) (heavyFrom (256 * u + f) y) (omega arith))
 
-pub less-heavy : (x y : List ℕ) → AreBytes x → AreBytes y → length x ≡ length y → lessBytes x y ≡ ltb (heavyFirst x) (heavyFirst y)
-less-heavy = less-from 0
-
 -- ---- the parts of four bytes from part k on, compared with the one before
 
 abbrev pub fourAt : ℕ → List ℕ → List ℕ
@@ -112,7 +109,7 @@ module _ (n k : ℕ) (b : List ℕ) (are : AreBytes b) (low : 1 ≤ k) (high : k
   rising-next =
       ap (risingFrom (fourAt (4 * k - 4) b)) (parts-next 4 n k b high)
       ∙ ap₂ (λ (t : Bool) (at : ℕ). t && risingFrom (fourAt at b) (partsFrom 4 n (k + 1) b))
-      (less-heavy (fourAt (4 * k - 4) b) (fourAt (4 * k) b) (part-bytes (4 * k - 4)) (part-bytes (4 * k)) long) back
+      (less-from 0 (fourAt (4 * k - 4) b) (fourAt (4 * k) b) (part-bytes (4 * k - 4)) (part-bytes (4 * k)) long) back
     where
       part-bytes : (at : ℕ) → AreBytes (fourAt at b)
       part-bytes at = bytes-take 4 (drop at b) (bytes-drop at b are)

@@ -9,9 +9,9 @@ use Rattle.sets.specs.Lists.{some, below}
 use Rattle.sets.specs.Bits.{member}
 
 -- the set has just what the first n sets of the list have
-pub record UsedBy (l : List ℕ) (n all : ℕ) : Type 0 where
+pub record UnionOfAlphabets (l : List ℕ) (n all : ℕ) : Type 0 where
   pub exact : (a : ℕ) → member all a ≡ some (λ j. member (getD l j 0) a) (below n)
 
--- some action below m is in none of the n alphabets of the list
+-- document 01, refusal 6, of the first n alphabets of a list
 abbrev pub unusedIn : List ℕ → ℕ → ℕ → Bool
 unusedIn l n m = some (λ a. not (some (λ j. member (getD l j 0) a) (below n))) (below m)

@@ -6,7 +6,7 @@ use Prim.Native.Nat.{ℕ}
 use lib.ListN.{length, take, drop}
 use lib.Seq.{take-length}
 use Rattle.sheet.specs.Writing.{stepBytes, trailer, sheetOf}
-use Rattle.writing.specs.Sections.{over}
+use Rattle.sets.specs.Lists.{over}
 use Rattle.writing.proofs.Lending.{lent-over}
 use borrow.Author.Needs.{needs}
 use Rattle.writing.proofs.write_sheet.Statement.{statement}

@@ -8,7 +8,7 @@ use lib.ListN.{length, take, getD}
 use borrow.Author.Needs.{needs}
 use Rattle.sheet.specs.Numbers.{bytes}
 use Rattle.sheet.specs.Writing.{stepBytes, trailer}
-use Rattle.writing.specs.Sections.{over}
+use Rattle.sets.specs.Lists.{over}
 use Rattle.writing.proofs.Lending.{lent-over, steps-length, steps-next}
 use Rattle.writing.proofs.write_steps.Statement.{statement}
 use Rattle.writing.proofs.write_steps.Tie as tie

@@ -6,7 +6,7 @@ use Prim.Native.Nat.{ℕ, _*_}
 use Rattle.sheet.specs.Numbers.{bytes}
 use Rattle.sheet.specs.Layout.{mark}
 use Rattle.sheet.specs.Writing.{trailer}
-use Rattle.writing.specs.Sections.{over}
+use Rattle.sets.specs.Lists.{over}
 use Rattle.writing.proofs.Lending.{lent-over}
 use borrow.Author.Needs.{needs}
 use Rattle.writing.proofs.write_trailer.Statement.{statement}

@@ -6,7 +6,7 @@ use Prim.Native.Nat.{ℕ, _^_, _<_, max}
 use native.Mathlib.Omega.{arith}
 use borrow.Author.Needs.{needs}
 use Rattle.sets.specs.Bits.{members}
-use Rattle.normal_form.specs.levels.Levels.{largest}
+use Rattle.dependence.specs.participants.Levels.{largest}
 use Rattle.normal_form.proofs.levels.Walking.{first-below, largest-more, largest-none}
 use Rattle.normal_form.proofs.levels.highest.Statement.{statement}
 use Rattle.normal_form.proofs.levels.highest.Tie as tie

@@ -6,31 +6,30 @@ use native.Mathlib.Omega.{arith}
 use lib.ListN.{getD, set}
 use borrow.Author.Needs.{needs}
 use Rattle.sets.specs.Bits.{members}
-use Rattle.normal_form.specs.levels.Levels.{largest}
-use Rattle.normal_form.proofs.placing.Showing.{level-bound, place-one}
+use Rattle.dependence.specs.participants.Levels.{largest}
+use Rattle.normal_form.proofs.placing.Showing.{level-room, place-one}
 use Rattle.normal_form.proofs.placing.place.Statement.{statement}
 use Rattle.normal_form.proofs.placing.place.Tie as tie
 
--- what was found is the level, which is that of some steps for which there is room
+-- what was found is the level, for which there is room
 level : (h : tie.After-highest) → let start = h .before .before .before .before .before .before .args in
-    h .highest .result ≡ largest (start .last .now) (members (getD (start .owners .now) (start .a) 0))
+    h .highest .result ≡ largest (start .last .now) (members (getD (start .participants .now) (start .a) 0))
 level h = let e = h .highest .ensures in omega arith
 
 low : (h : tie.After-highest) → h .highest .result < 1024
 low h =
     let start = h .before .before .before .before .before .before in
-    let b = level-bound (start .args .owners .now) (start .pre .0) (start .args .a) (start .pre .4) (start .args .last .now)
-    (start .args .packed .now) (start .args .count) (start .pre .5) in
+    let b = level-room (start .args .participants .now) (start .pre .0) (start .args .a) (start .args .last .now)
+    (start .args .packed .now) (start .args .count) 1 (start .pre .4) in
     let e = level h in
     omega arith
 
 highest-requires : tie.Need-highest-requires
 highest-requires c κs = let start = c .before .before .before .before .before in (start .pre .0 .small (start .args .a), start .pre .1)
 
-mark-requires : tie.Need-mark-requires
-mark-requires c κs =
+raise-requires : tie.Need-raise-requires
+raise-requires c κs =
     let start = c .before .before .before .before .before .before .before in
-    let room = start .pre .5 .room in
     let h = low (c .before) in
     (start .pre .0 .small (start .args .a), omega arith, start .pre .1)
 
@@ -58,8 +57,8 @@ returns c =
     let found = c .before .before .before .before .before .before .before in
     let start = found .before .before .before .before .before .before in
     let at = found .highest .result in
-    place-one (start .args .owners .now) (start .pre .0) (start .args .a) (start .pre .4) (start .args .last .now) (start .args .packed .now)
-    (start .args .count) at (level found) (low found) _ _ _ (c .before .before .before .before .before .mark .ensures)
+    place-one (start .args .participants .now) (start .pre .0) (start .args .a) (start .args .last .now) (start .args .packed .now)
+    (start .args .count) at (level found) (low found) _ _ _ (c .before .before .before .before .before .raise .ensures)
     (ap (set (start .args .packed .now) at) (c .before .with .ensures)) (c .larger .ensures)
 
 pub place-spec : {M : Type 1} → statement M
@@ -69,7 +68,7 @@ place-spec =
     (λ c. search needs)
     (λ c. search needs)
     highest-requires
-    mark-requires
+    raise-requires
     mul-with
     slice-read-with
     (λ c κs. search needs)

@@ -5,22 +5,22 @@ use mathlib.Core.List.{[], _∷_}
 use Prim.Native.Nat.{ℕ}
 use Rattle.sets.specs.Bits.{members}
 use Rattle.sets.proofs.Members.{members-zero}
-use Rattle.normal_form.specs.placing.Placing.{Placed}
-use Rattle.normal_form.proofs.placing.Showing.{Remaining, remaining-none, part-known, part-bounded, remaining-rest}
+use Rattle.normal_form.specs.placing.Placing.{PlacesWord}
+use Rattle.normal_form.proofs.placing.Showing.{Remaining, remaining-none, part-room, remaining-rest}
 use Rattle.normal_form.proofs.placing.place_step.Statement.{statement}
 use Rattle.normal_form.proofs.placing.place_step.Tie as tie
 
 abbrev Inv-loop : tie.InvT-loop
-Inv-loop owners step count last₀ packed₀ steps₀ left₀ last packed steps left =
-    Remaining owners (members left) last packed steps (λ last′ packed′ count′. Placed owners (members step) last₀ packed₀ count last′ packed′ count′)
+Inv-loop participants step count last₀ packed₀ steps₀ left₀ last packed steps left =
+    Remaining participants (members left) last packed steps (λ last′ packed′ count′. PlacesWord participants (members step) last₀ packed₀ count last′ packed′ count′)
 
 abbrev μ-loop : tie.MeasureT-loop
-μ-loop owners step count last₀ packed₀ steps₀ left₀ last packed steps left = left
+μ-loop participants step count last₀ packed₀ steps₀ left₀ last packed steps left = left
 
 loop-holds : tie.Need-loop-holds Inv-loop μ-loop
 loop-holds c =
     let pre = c .before .before .before .pre in
-    record { last-size = pre .1; packed-size = pre .2; known = pre .3; bounded = pre .4; finish = λ last packed count P. P }
+    record { last-size = pre .1; packed-size = pre .2; room = pre .3; finish = λ last packed count P. P }
 
 lowest-requires : tie.Need-lowest-requires Inv-loop μ-loop
 lowest-requires c κs = c .loop-test .taken
@@ -34,8 +34,7 @@ place-requires c κs =
       R .last-size,
       R .packed-size,
       first .ensures .0,
-      part-known _ _ _ _ _ _ (first .result ∷ []) _ (first .ensures .1) R,
-      part-bounded _ _ _ _ _ _ (first .result ∷ []) _ (first .ensures .1) R,
+      part-room _ _ _ _ _ _ (first .result ∷ []) _ (first .ensures .1) R,
     )
 
 without-lowest-requires : tie.Need-without-lowest-requires Inv-loop μ-loop

@@ -16,11 +16,8 @@ shifted m l = shl-exact 1 m 64 (lit< tt) (omega arith) ∙ one-mul (2 ^ m)
 returns : tie.Need-returns
 returns c = sym (ap (λ (m : ℕ). 2 ^ m - 1) (c .if1 .taken))
 
-sub-result : tie.Need-sub-result
-sub-result c = let m = c .before .args .m in let l = c .if1 .left in omega (arith, shifted m (omega arith), pow-pos m)
-
 returns-2 : tie.Need-returns-2
 returns-2 c = let l = c .if1 .left in ap (λ (x : ℕ). x - 1) (shifted (c .before .args .m) (omega arith))
 
 pub full-spec : {M : Type 1} → statement M
-full-spec = tie.close (tie.spec returns (λ c. search needs) sub-result returns-2)
+full-spec = tie.close (tie.spec returns (λ c. search needs) (λ c. let m = c .before .args .m in let l = c .if1 .left in omega (arith, shifted m (omega arith), pow-pos m)) returns-2)

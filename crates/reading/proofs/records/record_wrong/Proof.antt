@@ -5,23 +5,16 @@ use mathlib.Core.Bool.{Bool, true, false, not, _||_, or-assoc}
 use mathlib.Core.List.{List}
 use Prim.Native.Nat.{ℕ, _+_, _*_, _^_, _≤_}
 use native.Mathlib.Omega.{arith}
-use lib.Dec.{leb, ltb, eqb}
+use lib.Dec.{leb, eqb}
 use lib.ListN.{getD}
-use Rattle.sets.proofs.Bools.{or-false, ltb-false}
 use Rattle.sheet.specs.Numbers.{field}
 use Rattle.sheet.specs.Layout.{statesOf, fillerOf, initialOf, alphabetOf}
 use Rattle.sheet.specs.Refusals.{outside, recordWrong}
 use Rattle.sheet.proofs.Numbers.{field-one}
+use Rattle.sheet.proofs.Limits.{inside}
 use borrow.Author.Needs.{needs}
 use Rattle.reading.proofs.records.record_wrong.Statement.{statement}
 use Rattle.reading.proofs.records.record_wrong.Tie as tie
-
-first : (a b c d e f : Bool) → a ≡ true → true ≡ (((((a || b) || c) || d) || e) || f)
-first a b c d e f h = rw h
-
-others : (a b c d e f x y : Bool) → a ≡ false → x ≡ (c || d) → y ≡ (e || f) → ((b || x) || y) ≡ (((((a || b) || c) || d) || e) || f)
-others a true c d e f x y h ex ey = rw h
-others a false c d e f x y h ex ey = rw (h, ex, ey) (sym (or-assoc (c || d) e f))
 
 -- the set x is empty or has an element at or above k
 abbrev missing : ℕ → ℕ → Bool
@@ -35,23 +28,17 @@ module _ (b : List ℕ) (m j s : ℕ) (e : s ≡ getD b (16 * j) 0) where
 
   states-wrong : outside 1 32 s ≡ true → true ≡ recordWrong b m j
   unfolding recordWrong
-  states-wrong h = first (outside 1 32 (statesOf b j)) _ _ _ _ _ (ap (outside 1 32) (sym counted) ∙ h)
+  states-wrong h = rw (← counted, h)
 
   sets-tested : (filler initial alphabet : Bool) → outside 1 32 s ≡ false → filler ≡ not (eqb (field (16 * j + 1) 3 b) 0)
       → initial ≡ missing s (field (16 * j + 4) 4 b) → alphabet ≡ missing m (field (16 * j + 8) 8 b)
       → ((filler || initial) || alphabet) ≡ recordWrong b m j
   unfolding recordWrong fillerOf initialOf alphabetOf
-  sets-tested x y z h ex ey ez =
-      let k = statesOf b j in
-      let i = field (16 * j + 4) 4 b in
-      let a = field (16 * j + 8) 8 b in
-      ap (λ (t : Bool). (t || y) || z) ex
-      ∙ others (outside 1 32 k) (not (eqb (field (16 * j + 1) 3 b) 0)) (eqb i 0) (leb (2 ^ k) i) (eqb a 0) (leb (2 ^ m) a) y z
-      (ap (outside 1 32) (sym counted) ∙ h) (ey ∙ ap (λ (n : ℕ). missing n i) counted) ez
+  sets-tested x y z h ex ey ez = rw (ex, ey, ez, ← counted, h) (simp or-assoc)
 
 -- a state count that passed is at most 32
 states-fit : (s : ℕ) (r : Bool) → r ≡ outside 1 32 s → r ≡ false → s ≤ 64
-states-fit s r e f = let h = ltb-false 32 s .0 (or-false (ltb s 1) (ltb 32 s) .0 (sym e ∙ f) .1) in omega arith
+states-fit s r e f = omega (arith, inside 1 32 s .0 (sym e ∙ f) .1)
 
 returns : tie.Need-returns
 returns c =

@@ -10,15 +10,15 @@ use lib.ListN.{getD}
 use borrow.Author.Needs.{needs}
 use Rattle.sets.specs.Bits.{member}
 use Rattle.sets.proofs.Members.{member-zero, member-or}
-use Rattle.reading.specs.records.Alphabets.{UsedBy}
+use Rattle.reading.specs.records.Alphabets.{UnionOfAlphabets}
 use Rattle.reading.proofs.records.Searching.{some-none, some-more}
 use Rattle.reading.proofs.records.used.Statement.{statement}
 use Rattle.reading.proofs.records.used.Tie as tie
 
-none-yet : (l : List ℕ) → UsedBy l 0 0
+none-yet : (l : List ℕ) → UnionOfAlphabets l 0 0
 none-yet l = record { exact = λ a. member-zero a ∙ sym (some-none (λ i. member (getD l i 0) a)) }
 
-one-more : (l : List ℕ) (j all : ℕ) → UsedBy l j all → UsedBy l (j + 1) (bitOr all (getD l j 0))
+one-more : (l : List ℕ) (j all : ℕ) → UnionOfAlphabets l j all → UnionOfAlphabets l (j + 1) (bitOr all (getD l j 0))
 one-more l j all h =
     record {
       exact =
@@ -28,7 +28,7 @@ one-more l j all h =
     }
 
 abbrev Inv-loop : tie.InvT-loop
-Inv-loop alphabets n all₀ j₀ all j = (j ≤ n) × UsedBy alphabets j all
+Inv-loop alphabets n all₀ j₀ all j = (j ≤ n) × UnionOfAlphabets alphabets j all
 
 abbrev μ-loop : tie.MeasureT-loop
 μ-loop alphabets n all₀ j₀ all j = n - j

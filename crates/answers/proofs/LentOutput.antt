@@ -1,0 +1,92 @@
+-- A text handed over in lent bytes: 13 exactly where it does not fit, else its length, what is written and what is kept; and restating by these.
+-- Assumes nothing.
+use mathlib.Core.Path.{_≡_, refl, sym, ap, _∙_}
+use mathlib.Core.Bool.{Bool, true, false}
+use mathlib.Core.List.{List}
+use Prim.Native.Nat.{ℕ, _<_, _≤_}
+use native.Mathlib.Omega.{arith}
+use lib.Dec.{ltb}
+use lib.ListN.{length, take, drop}
+use lib.Seq.{take-append-seam, drop-append-seam}
+use Rattle.sets.specs.Lists.{over}
+use Rattle.sets.proofs.Bools.{ltb-true, ltb-false}
+use Rattle.sheet.specs.Verdict.{Verdict, verdict, Accepted}
+use Rattle.answers.specs.Outcomes.{given, refused, values, single, after}
+use Rattle.answers.specs.LentOutput.{unlessShort, fitting}
+use Rattle.answers.specs.Restated.{restated}
+use Rattle.answers.specs.Restating.{restating, outputAfter}
+
+-- ---- any text
+
+module _ (text : List ℕ) where
+  pub fitting-short : (size : ℕ) → size < length text → fitting text size ≡ refused 13 0 0
+  unfolding fitting
+  fitting-short size l = rw (ltb-true size (length text) .1 l)
+
+  pub fitting-long : (size : ℕ) → length text ≤ size → fitting text size ≡ given (length text)
+  unfolding fitting
+  fitting-long size l = rw (ltb-false size (length text) .1 l)
+
+  -- what is given is the length of the text
+  pub fitting-length : (size k : ℕ) → fitting text size ≡ given k → length text ≡ k
+  unfolding fitting
+  fitting-length size k e = go (ltb size (length text)) e
+    where
+      go : (s : Bool) → unlessShort s (length text) ≡ given k → length text ≡ k
+      go true h = let z : _≡_ {A = ℕ} 0 1 = cc in absurd (omega arith)
+      go false h = cc
+
+  -- what was told as written lies within the output
+  pub fitting-within : (size k : ℕ) → given (single k) ≡ values single (fitting text size) → k ≤ size
+  unfolding fitting
+  fitting-within size k e = go (ltb size (length text)) refl e
+    where
+      go : (s : Bool) → ltb size (length text) ≡ s → given (single k) ≡ values single (unlessShort s (length text)) → k ≤ size
+      go true q h = let z : _≡_ {A = ℕ} 0 1 = cc in absurd (omega arith)
+      go false q h = let n : k ≡ length text = cc in let l = ltb-false size (length text) .0 q in omega arith
+
+  pub output-front : (out : List ℕ) (k : ℕ) → length text ≡ k → take k (over text out) ≡ text
+  output-front out k e = ap (λ (j : ℕ). take j (over text out)) (sym e) ∙ take-append-seam text (drop (length text) out)
+
+  pub output-behind : (out : List ℕ) (k : ℕ) → length text ≡ k → drop k (over text out) ≡ drop k out
+  output-behind out k e =
+      ap (λ (j : ℕ). drop j (over text out)) (sym e) ∙ drop-append-seam text (drop (length text) out) ∙ ap (λ (j : ℕ). drop j out) e
+
+-- ---- restating
+
+pub refused-first : (b : List ℕ) (size k i : ℕ) → verdict b ≡ Verdict.refused k i → restating b size ≡ refused k i 0
+unfolding restating
+refused-first b size k i e = rw e
+
+pub accepted-fits : (b : List ℕ) (size : ℕ) → Accepted b → restating b size ≡ fitting (restated b) size
+unfolding restating
+accepted-fits b size acc = rw acc
+
+pub refused-short : (b : List ℕ) (size : ℕ) → Accepted b → size < length (restated b) → restating b size ≡ refused 13 0 0
+refused-short b size acc l = accepted-fits b size acc ∙ fitting-short (restated b) size l
+
+pub given-long : (b : List ℕ) (size : ℕ) → Accepted b → length (restated b) ≤ size → restating b size ≡ given (length (restated b))
+given-long b size acc l = accepted-fits b size acc ∙ fitting-long (restated b) size l
+
+pub refused-kept : (b out : List ℕ) (k i s : ℕ) → restating b (length out) ≡ refused k i s → outputAfter b out ≡ out
+unfolding outputAfter
+refused-kept b out k i s e = rw e
+
+-- what is given is the length of the restated sheet
+given-length : (b : List ℕ) (size k : ℕ) → restating b size ≡ given k → length (restated b) ≡ k
+unfolding restating
+given-length b size k e = go (verdict b) e
+  where
+    go : (v : Verdict) → after v (fitting (restated b) size) ≡ given k → length (restated b) ≡ k
+    go (Verdict.refused r i) h = let z : _≡_ {A = ℕ} 0 1 = cc in absurd (omega arith)
+    go Verdict.accepted h = fitting-length (restated b) size k h
+
+pub given-output : (b out : List ℕ) (k : ℕ) → restating b (length out) ≡ given k → outputAfter b out ≡ over (restated b) out
+unfolding outputAfter
+given-output b out k e = rw e
+
+pub given-written : (b out : List ℕ) (k : ℕ) → restating b (length out) ≡ given k → take k (outputAfter b out) ≡ restated b
+given-written b out k e = rw (given-output b out k e) (output-front (restated b) out k (given-length b (length out) k e))
+
+pub given-behind : (b out : List ℕ) (k : ℕ) → restating b (length out) ≡ given k → drop k (outputAfter b out) ≡ drop k out
+given-behind b out k e = rw (given-output b out k e) (output-behind (restated b) out k (given-length b (length out) k e))

@@ -1,4 +1,0 @@
-pub mod filling
-pub mod verdict_values
-pub mod values
-pub mod pair_calls

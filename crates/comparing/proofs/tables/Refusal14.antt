@@ -1,0 +1,64 @@
+-- 14: whether the tables of two accepted sheets differ, from the sizes of each.
+-- Assumes nothing.
+use mathlib.Core.Path.{_≡_, refl, sym, ap, _∙_}
+use mathlib.Core.Bool.{Bool, true, false, not}
+use mathlib.Core.List.{List}
+use Prim.Native.Nat.{ℕ}
+use native.Mathlib.Omega.{arith}
+use lib.ListN.{length, take}
+use lib.Seq.{length-take-le}
+use Rattle.sets.proofs.Bools.{clash}
+use Rattle.sheet.specs.Layout.{stepsAt, front}
+use Rattle.sheet.specs.Refusals.{sameBytes}
+use Rattle.sheet.proofs.Limits.{same-bytes}
+use Rattle.answers.specs.declared.Sizes.{Sizes}
+use Rattle.answers.specs.Related.{SameTables}
+use Rattle.answers.specs.TwoSheets.{tablesDiffer}
+use Rattle.answers.proofs.TwoSheets.{differ-false}
+use Rattle.desk.specs.AcceptedSheet.{AcceptedSheet}
+
+front-taken : (b : List ℕ) (s : ℕ) → s ≡ stepsAt b → take s b ≡ front b
+unfolding front
+front-taken b s e = ap (λ (x : ℕ). take x b) e
+
+pub front-size : (b : List ℕ) (z : Sizes) (s : ℕ) → AcceptedSheet b z → s ≡ z .s → s ≡ length (take s b)
+front-size b z s p e = let last = p .trailer-last in sym (length-take-le s b (omega arith))
+
+module _ (b c : List ℕ) where
+  differ-true : ¬ SameTables b c → true ≡ tablesDiffer b c
+  differ-true n = go (tablesDiffer b c) refl
+    where
+      go : (t : Bool) → tablesDiffer b c ≡ t → true ≡ t
+      go true e = refl
+      go false e = absurd (n (differ-false b c .0 e))
+
+  module _ (z w : Sizes) (p : AcceptedSheet b z) (q : AcceptedSheet c w) where
+    pub differ-n : ¬ (z .n ≡ w .n) → true ≡ tablesDiffer b c
+    differ-n h = differ-true (λ t. h (p .n-read ∙ t .same-components ∙ sym (q .n-read)))
+
+    pub differ-m : ¬ (z .m ≡ w .m) → true ≡ tablesDiffer b c
+    differ-m h = differ-true (λ t. h (p .m-read ∙ t .same-actions ∙ sym (q .m-read)))
+
+    pub differ-s : ¬ (z .s ≡ w .s) → true ≡ tablesDiffer b c
+    differ-s h = differ-true (λ t. h (p .s-read ∙ t .same-steps-at ∙ sym (q .s-read)))
+
+    -- with the numbers the same, the bytes before S decide
+    pub differ-front : z .n ≡ w .n → z .m ≡ w .m → z .s ≡ w .s → not (sameBytes (take (z .s) b) (take (z .s) c)) ≡ tablesDiffer b c
+    differ-front hn hm hs = go (sameBytes (take (z .s) b) (take (z .s) c)) refl
+      where
+        one : take (z .s) b ≡ front b
+        one = front-taken b (z .s) (p .s-read)
+
+        two : take (z .s) c ≡ front c
+        two = front-taken c (z .s) (hs ∙ q .s-read)
+
+        go : (t : Bool) → sameBytes (take (z .s) b) (take (z .s) c) ≡ t → not t ≡ tablesDiffer b c
+        go true e =
+            sym (differ-false b c .1
+            (record {
+              same-front = sym one ∙ same-bytes (take (z .s) b) (take (z .s) c) .0 e ∙ two;
+              same-steps-at = sym (p .s-read) ∙ hs ∙ q .s-read;
+              same-components = sym (p .n-read) ∙ hn ∙ q .n-read;
+              same-actions = sym (p .m-read) ∙ hm ∙ q .m-read;
+            }))
+        go false e = differ-true (λ t. clash (same-bytes (take (z .s) b) (take (z .s) c) .1 (one ∙ t .same-front ∙ sym two)) e)

@@ -1,0 +1,57 @@
+// The restated steps of two sheets over the same tables side by side: whether they are the same, and which are fewer.
+ghost use mathlib.Core.Path.{_≡_};
+ghost use lib.Dec.{ltb};
+ghost use lib.ListN.{length};
+ghost use Rattle.sheet.specs.Refusals.{sameBytes};
+ghost use Rattle.answers.specs.Restated.{restatedSteps};
+ghost use Rattle.desk.specs.AcceptedSheet.{AcceptedSheet};
+use answers::Sizes;
+use desk::restate;
+
+// Whether two step lists are the same.
+fn same_steps(a: &[u64], b: &[u64]) -> bool
+    ensures { λ r. ⌜ r ≡ sameBytes (now (a .entry)) (now (b .entry)) ⌝ }
+{
+    if a.len() != b.len() {
+        return false;
+    }
+    let mut i = 0;
+    while i < a.len() {
+        if a[i] != b[i] {
+            return false;
+        }
+        i += 1;
+    }
+    true
+}
+
+// Whether two accepted sheets have the same restated steps.
+pub fn same_restated(first: &[u8], second: &[u8], sizes: Sizes) -> bool
+    requires { ⌜ AcceptedSheet (now first) sizes × AcceptedSheet (now second) sizes ⌝ }
+    ensures { λ r. ⌜ r ≡ sameBytes (restatedSteps (now (first .entry))) (restatedSteps (now (second .entry))) ⌝ }
+{
+    let mut one = [0u64; 1024];
+    let count = restate::pack_sheet(first, sizes, &mut one);
+    let mut two = [0u64; 1024];
+    let count2 = restate::pack_sheet(second, sizes, &mut two);
+    same_steps(&one[..count], &two[..count2])
+}
+
+// How many steps an accepted sheet has when it is restated.
+fn restated_count(sheet: &[u8], sizes: Sizes) -> usize
+    requires { ⌜ AcceptedSheet (now sheet) sizes ⌝ }
+    ensures { λ r. ⌜ r ≡ length (restatedSteps (now (sheet .entry))) ⌝ }
+{
+    let mut steps = [0u64; 1024];
+    restate::pack_sheet(sheet, sizes, &mut steps)
+}
+
+// Whether the second of two accepted sheets has fewer restated steps.
+pub fn second_leaner(first: &[u8], second: &[u8], sizes: Sizes) -> bool
+    requires { ⌜ AcceptedSheet (now first) sizes × AcceptedSheet (now second) sizes ⌝ }
+    ensures { λ r. ⌜ r ≡ ltb (length (restatedSteps (now (second .entry)))) (length (restatedSteps (now (first .entry)))) ⌝ }
+{
+    let one = restated_count(first, sizes);
+    let two = restated_count(second, sizes);
+    two < one
+}

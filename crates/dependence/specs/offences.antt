@@ -1,2 +1,0 @@
-pub mod Offences
-pub mod Meeting

@@ -1,0 +1,2 @@
+pub mod Participants
+pub mod Levels

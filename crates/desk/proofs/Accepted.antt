@@ -1,0 +1,100 @@
+-- An accepted sheet with its sizes, as the calls know it once it was checked: its alphabets, its dependence and its steps.
+-- Assumes nothing.
+use mathlib.Core.Path.{_≡_, refl, sym, ap, _∙_}
+use mathlib.Core.List.{List}
+use Prim.Native.Nat.{ℕ, _+_, _-_, _*_, _≤_, _<_}
+use native.Mathlib.Omega.{arith}
+use lib.ListN.{length, take, drop, length-take}
+use Rattle.systems.specs.Running.{start}
+use Rattle.systems.specs.Checking.{flat}
+use Rattle.systems.proofs.Faults.{fault-none}
+use Rattle.systems.proofs.Executions.{flat-below}
+use Rattle.sheet.specs.Layout.{transitionsAt, stepsAt, componentCount, actionCount, alphabetOf, front, tablesOf, tables, steps}
+use Rattle.sheet.specs.Sections.{stepsIn, Alphabets}
+use Rattle.sheet.specs.Verdict.{verdict, Accepted}
+use Rattle.systems.specs.Tables.{WordOver}
+use Rattle.sheet.proofs.Sections.{alphabets-each}
+use Rattle.sheet.proofs.Numbers.{field-within}
+use Rattle.sheet.proofs.RoundTrip.{section-steps}
+use Rattle.answers.specs.declared.Sizes.{Sizes}
+use Rattle.answers.specs.declared.Answer.the-variants.{Accepted as AcceptedAnswer}
+use Rattle.answers.specs.Outcomes.{outcomeOf, readOutcome}
+use Rattle.answers.proofs.Passing.{told-accepted}
+use Rattle.answers.proofs.Restated.{accepted-limits, accepted-order, accepted-fine}
+use Rattle.desk.specs.AcceptedSheet.{AcceptedSheet}
+
+-- the check told the sizes
+pub accepted-sheet : (b : List ℕ) (z : Sizes) → outcomeOf (AcceptedAnswer z) ≡ readOutcome b (verdict b) → AcceptedSheet b z
+accepted-sheet b z e =
+    let r = told-accepted z (verdict b) (componentCount b) (actionCount b) (transitionsAt b) (stepsAt b) e in
+    let l = accepted-limits b (r .0) in
+    let en = r .1 in
+    let em = r .2 in
+    let et = r .3 in
+    let es = r .4 in
+    let behind = l .steps-next .2 in
+    let last = l .trailer-last .2 in
+    record {
+      sheet-accepted = r .0;
+      n-read = en;
+      m-read = em;
+      t-read = et;
+      s-read = es;
+      n-high = omega arith;
+      m-high = omega arith;
+      t-next = omega arith;
+      s-behind = omega arith;
+      trailer-last = omega arith;
+      length-high = omega arith;
+    }
+
+-- ---- alphabets and steps
+
+-- every action in a step of an accepted sheet is one of its m actions
+pub steps-below : (b : List ℕ) → Accepted b → WordOver (tables b) (flat (steps b))
+steps-below b acc =
+    flat-below (tables b) (accepted-order b acc) (steps b) (fault-none (tables b) (start (tables b)) 0 (steps b) .0 (accepted-fine b acc) .0)
+
+-- the steps that stand in the bytes from s up to the trailer
+abbrev pub readSteps : List ℕ → ℕ → List ℕ
+readSteps b s = stepsIn (take (length b - 10 - s) (drop s b))
+
+module _ (b : List ℕ) (z : Sizes) (r : AcceptedSheet b z) where
+  pub records-long : 16 * z .n ≤ length (take (z .t - 0) (drop 0 b))
+  records-long = simp length-take (omega arith)
+
+  components-told : tables b .components ≡ z .n
+  unfolding tables tablesOf
+  components-told = sym (r .n-read)
+
+  alphabet-front : (j : ℕ) → tables b .alphabet j ≡ alphabetOf (front b) j
+  unfolding tables tablesOf
+  alphabet-front j = refl
+
+  -- both parts hold the record with index j
+  alphabet-same : (j : ℕ) → j < z .n → alphabetOf (take (z .t - 0) (drop 0 b)) j ≡ alphabetOf (front b) j
+  unfolding alphabetOf front
+  alphabet-same j h =
+      let e = r .s-read in
+      field-within (16 * j + 8) 8 (z .t - 0) b (omega arith) ∙ sym (field-within (16 * j + 8) 8 (stepsAt b) b (omega arith))
+
+  pub section-told : readSteps b (z .s) ≡ steps b
+  section-told =
+      section-steps b (take (length b - 10 - z .s) (drop (z .s) b)) (accepted-limits b (r .sheet-accepted))
+      (ap (λ (x : ℕ). take (length b - 10 - x) (drop x b)) (r .s-read))
+
+  -- an array with the alphabets of the records has those of the sheet
+  pub alphabets-told : (l : List ℕ) → Alphabets (tablesOf (take (z .t - 0) (drop 0 b)) (z .n) (z .m)) (z .n) l → Alphabets (tables b) (z .n) l
+  alphabets-told l A =
+      record {
+        size = A .size;
+        count = sym components-told;
+        each = λ j h. alphabets-each (take (z .t - 0) (drop 0 b)) (z .n) (z .m) l A j h ∙ alphabet-same j h ∙ sym (alphabet-front j);
+      }
+
+  -- the steps are over the actions of the sheet
+  pub section-over : WordOver (tables b) (flat (readSteps b (z .s)))
+  section-over = rw section-told (steps-below b (r .sheet-accepted))
+
+  pub section-few : length (flat (readSteps b (z .s))) ≤ 1024
+  section-few = rw section-told (accepted-limits b (r .sheet-accepted) .actions-total)

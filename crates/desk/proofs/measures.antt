@@ -1,2 +1,0 @@
-pub mod Figuring
-pub mod EndArrays

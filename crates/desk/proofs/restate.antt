@@ -1,0 +1,2 @@
+pub mod PackedSheets
+pub mod RestateAnswers

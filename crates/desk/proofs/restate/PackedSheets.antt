@@ -1,0 +1,69 @@
+-- The steps of an accepted sheet with the participants of each action: they may be packed, and packed they are the restated steps.
+-- Assumes nothing.
+use mathlib.Core.Path.{_≡_, sym, ap, ap₂, _∙_}
+use mathlib.Core.List.{List, map}
+use Prim.Native.Nat.{ℕ, _-_, _≤_}
+use native.Mathlib.Omega.{arith}
+use lib.ListN.{length, take, drop, replicate, length-map, length-append, length-replicate}
+use lib.Seq.{take-append-seam}
+use Rattle.sets.specs.Bits.{setOf}
+use Rattle.traces.specs.Foata.{foata}
+use Rattle.systems.specs.Tables.{Tables}
+use Rattle.systems.specs.Checking.{flat}
+use Rattle.systems.specs.Independence.{dependent}
+use Rattle.sheet.specs.Layout.{tablesOf, tables, steps}
+use Rattle.sheet.specs.Sections.{Alphabets}
+use Rattle.dependence.specs.participants.Participants.{Participants, OfSixteen}
+use Rattle.dependence.proofs.participants.Entering.{participants-sixteen}
+use Rattle.normal_form.specs.HoldsFoata.{HoldsFoata}
+use Rattle.answers.specs.declared.Sizes.{Sizes}
+use Rattle.answers.specs.Restated.{restatedSteps}
+use Rattle.answers.proofs.Restated.{restated-normal, accepted-limits}
+use Rattle.desk.specs.AcceptedSheet.{AcceptedSheet}
+use Rattle.desk.specs.Left.{ParticipantsLeft, PackedSteps}
+use Rattle.desk.proofs.Accepted.{readSteps, section-told, alphabets-told}
+
+-- the participants of each action by the alphabets that were read
+pub participants-read : (b : List ℕ) (z : Sizes) → AcceptedSheet b z → (l : List ℕ)
+    → Alphabets (tablesOf (take (z .t - 0) (drop 0 b)) (z .n) (z .m)) (z .n) l
+    → (o : List ℕ) → ((T : Tables) → Alphabets T (z .n) l → Participants T o) → ParticipantsLeft b o
+participants-read b z r l A o O acc = O (tables b) (alphabets-told b z r l A)
+
+module _ (b : List ℕ) (z : Sizes) (k : AcceptedSheet b z) (o : List ℕ) (p : ParticipantsLeft b o) where
+  section-same : readSteps b (z .s) ≡ steps b
+  section-same = section-told b z k
+
+  few : tables b .components ≤ 16
+  unfolding tables tablesOf
+  few = accepted-limits b (k .sheet-accepted) .components-high
+
+  -- what packing asks of the participants
+  pub sheet-sixteen : OfSixteen o
+  sheet-sixteen = participants-sixteen (tables b) o (p (k .sheet-accepted)) few
+
+  module _ (packed : List ℕ) (count : ℕ) (h : HoldsFoata (dependent (tables b)) (flat (readSteps b (z .s))) packed count) where
+    -- the normal form of the actions read
+    abbrev placed : List (List ℕ)
+    placed = foata (dependent (tables b)) (flat (readSteps b (z .s)))
+
+    placed-told : map setOf placed ≡ restatedSteps b
+    placed-told = ap (λ (xs : List ℕ). map setOf (foata (dependent (tables b)) (flat xs))) section-same ∙ sym (restated-normal b)
+
+    count-sets : count ≡ length (map setOf placed)
+    count-sets = h .counted ∙ sym (length-map placed setOf)
+
+    whole : length packed ≡ 1024
+    whole =
+        let f = h .few in
+        let e = count-sets in
+        let z = length-replicate {A = ℕ} (1024 - count) 0 in
+        ap length (h .packed-sets) ∙ length-append (map setOf placed) (replicate (1024 - count) 0) ∙ omega arith
+
+    pub packed-told : PackedSteps b packed count
+    packed-told =
+        record {
+          size = whole;
+          counted = count-sets ∙ ap length placed-told;
+          few = h .few;
+          sets = ap₂ take count-sets (h .packed-sets) ∙ take-append-seam (map setOf placed) (replicate (1024 - count) 0) ∙ placed-told;
+        }

@@ -1,0 +1,58 @@
+-- Restating's answer and the output afterwards: the sheet's own refusal, else 13, else the packed steps written as the restated sheet.
+-- Assumes nothing.
+use mathlib.Core.Path.{_≡_, sym, ap, ap₂, _∙_}
+use mathlib.Core.List.{List}
+use Prim.Native.Nat.{ℕ, _+_, _*_, _≤_, _<_}
+use native.Mathlib.Omega.{arith}
+use lib.ListN.{length, take}
+use Rattle.sets.specs.Lists.{over}
+use Rattle.sheet.specs.Layout.{front}
+use Rattle.sheet.specs.Writing.{sheetOf}
+use Rattle.sheet.specs.Verdict.{Verdict, verdict}
+use Rattle.sheet.proofs.RoundTrip.{front-length}
+use Rattle.answers.specs.declared.Sizes.{Sizes}
+use Rattle.answers.specs.declared.Answer.{Answer}
+use Rattle.answers.specs.declared.Answer.the-variants.{Given, Refused}
+use Rattle.answers.specs.Outcomes.{given, refused, values, single}
+use Rattle.answers.specs.Restated.{restated}
+use Rattle.answers.specs.Restating.{restating}
+use Rattle.answers.proofs.Restated.{accepted-limits, restated-reads}
+use Rattle.answers.proofs.LentOutput.{refused-first, refused-short, given-long, refused-kept, given-output}
+use Rattle.answers.proofs.Passing.{Stopped}
+use Rattle.desk.specs.AcceptedSheet.{AcceptedSheet}
+use Rattle.desk.specs.Left.{PackedSteps}
+use Rattle.desk.specs.Calls.{RestateAnswer}
+
+-- a refused call leaves the output as it came
+refused-right : (b out : List ℕ) (k i s : ℕ) → restating b (length out) ≡ refused k i s → RestateAnswer b out (Refused k i s) out
+refused-right b out k i s e =
+    record { answer-told = ap (values single) (sym e); output-left = sym (refused-kept b out k i s e) }
+
+pub restate-refused : (b out : List ℕ) (r : Answer) (v : Verdict) (s : Stopped r v) → verdict b ≡ Verdict.refused (s .number) (s .index) → RestateAnswer b out r out
+restate-refused b out r v s same =
+    rw (s .answer-told) (refused-right b out (s .number) (s .index) 0 (refused-first b (length out) (s .number) (s .index) same))
+
+module _ (b : List ℕ) (z : Sizes) (r : AcceptedSheet b z) (packed : List ℕ) (count : ℕ) (p : PackedSteps b packed count) where
+  sheet-told : sheetOf (take (z .s) b) (z .n) (z .m) (take count packed) ≡ restated b
+  unfolding restated front
+  sheet-told = ap₂ (λ (x : ℕ) (xs : List ℕ). sheetOf (take x b) (z .n) (z .m) xs) (r .s-read) (p .sets) ∙ rw (r .n-read, r .m-read)
+
+  size-told : z .s + 8 * count + 10 ≡ length (restated b)
+  unfolding restated
+  size-told =
+      let total = restated-reads b (r .sheet-accepted) .total in
+      let before = front-length b (accepted-limits b (r .sheet-accepted)) in
+      let e = p .counted in
+      omega arith
+
+  pub restate-short : (out : List ℕ) → length out < z .s + 8 * count + 10 → RestateAnswer b out (Refused 13 0 0) out
+  restate-short out h = refused-right b out 13 0 0 (refused-short b (length out) (r .sheet-accepted) (let e = size-told in omega arith))
+
+  pub restate-written : (out after : List ℕ) → z .s + 8 * count + 10 ≤ length out
+      → after ≡ over (sheetOf (take (z .s) b) (z .n) (z .m) (take count packed)) out → RestateAnswer b out (Given (z .s + 8 * count + 10)) after
+  restate-written out after h e =
+      let enough = given-long b (length out) (r .sheet-accepted) (let z = size-told in omega arith) in
+      record {
+        answer-told = ap (λ (k : ℕ). given (single k)) size-told ∙ ap (values single) (sym enough);
+        output-left = e ∙ ap (λ (x : List ℕ). over x out) sheet-told ∙ sym (given-output b out (length (restated b)) enough);
+      }

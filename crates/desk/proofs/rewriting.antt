@@ -1,2 +1,0 @@
-pub mod RestatingAnswers
-pub mod Demands

@@ -1,0 +1,60 @@
+-- `stuck::is_stuck` meets its contract: whether an accepted sheet is stuck, else the sheet's refusal.
+-- Assumes nothing.
+use mathlib.Core.Path.{_≡_, sym, ap, _∙_}
+use mathlib.Core.Bool.{Bool}
+use mathlib.Core.List.{List}
+use Prim.Native.Nat.{ℕ}
+use borrow.Author.Needs.{needs}
+use Rattle.sheet.specs.Layout.{componentCount, actionCount, transitionsAt, stepsAt}
+use Rattle.sheet.specs.Verdict.{Verdict, verdict}
+use Rattle.answers.specs.declared.Answer.{Answer}
+use Rattle.answers.specs.Outcomes.{given, single, bit, outcomeOf}
+use Rattle.answers.specs.Stuck.{stuck, stuckOutcome}
+use Rattle.answers.proofs.Passing.{NotAccepted, passed-on, told-given}
+use Rattle.desk.specs.AcceptedSheet.{AcceptedSheet}
+use Rattle.desk.specs.Calls.{CheckAnswer, StuckAnswer}
+use Rattle.desk.proofs.Accepted.{accepted-sheet}
+use Rattle.desk.proofs.stuck.is_stuck.Statement.{statement}
+use Rattle.desk.proofs.stuck.is_stuck.Tie as tie
+
+abbrev yesNo : Bool → List ℕ
+yesNo t = single (bit t)
+
+refused-told : (b : List ℕ) (a : Answer) → NotAccepted a → CheckAnswer b a → StuckAnswer b a
+unfolding stuckOutcome
+refused-told b a h e = passed-on a h (verdict b) (componentCount b) (actionCount b) (transitionsAt b) (stepsAt b) e yesNo (given (stuck b))
+
+given-told : (b : List ℕ) (x : ℕ) (t : Bool) → verdict b ≡ Verdict.accepted → x ≡ bit t → t ≡ stuck b → StuckAnswer b (Answer.Given x)
+unfolding stuckOutcome
+given-told b x t acc e f = told-given yesNo (verdict b) (stuck b) (single x) acc (ap single (e ∙ ap bit f))
+
+returns : tie.Need-returns
+returns c =
+    refused-told (c .before .before .before .args .sheet .now) (c .before .end-sets .result .answer) (c .match .keys2) (c .before .end-sets .ensures .answer-told)
+
+accepted-at : (c : tie.After-known-told) → AcceptedSheet (c .before .before .before .before .before .args .sheet .now) (c .before .answer .given .0 .0)
+accepted-at c = accepted-sheet _ _ (ap outcomeOf (sym (c .before .answer .given .1)) ∙ c .before .before .before .end-sets .ensures .answer-told)
+
+stuck-at-requires : tie.Need-stuck-at-requires
+stuck-at-requires c κs =
+    let k = c .before .before in
+    (accepted-at k, k .before .before .before .end-sets .ensures .sets-told)
+
+returns-2 : tie.Need-returns-2
+returns-2 c =
+    let at = c .before in
+    let k = at .before .before .before in
+    given-told (k .before .before .before .before .before .args .sheet .now) (c .bit .result) (at .stuck-at .result) (accepted-at k .sheet-accepted)
+    (c .bit .ensures) (at .stuck-at .ensures)
+
+pub is-stuck-spec : {M : Type 1} → statement M
+is-stuck-spec =
+    tie.close
+    (tie.spec
+    (λ c κs. search needs)
+    (λ c. search needs)
+    returns
+    (λ c. search needs)
+    stuck-at-requires
+    (λ c κs. search needs)
+    returns-2)

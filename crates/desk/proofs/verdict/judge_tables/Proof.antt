@@ -1,0 +1,149 @@
+-- `verdict::judge_tables` meets its contract: the refusal of the tables, or what the run over the parts of the sheet answers and leaves.
+-- Assumes nothing.
+use mathlib.Core.Path.{_≡_, sym, ap, _∙_}
+use mathlib.Core.List.{List}
+use native.Mathlib.Omega.{arith}
+use Prim.Native.Nat.{ℕ, _+_, _≤_}
+use lib.ListN.{length}
+use lib.Seq.{length-take-le}
+use borrow.Author.Needs.{needs}
+use Rattle.sheet.specs.Limits.{InLimits}
+use Rattle.sheet.specs.Verdict.{accepted, tablesVerdict}
+use Rattle.answers.specs.declared.Sizes.{Sizes}
+use Rattle.answers.specs.declared.Answer.the-variants.{Accepted as AcceptedAnswer}
+use Rattle.answers.specs.Outcomes.{outcomeOf, readOutcome}
+use Rattle.desk.specs.Left.{ParticipantsLeft}
+use Rattle.machine.proofs.Running.{front-sound, section-short}
+use Rattle.desk.proofs.verdict.Judging.{refused-ends, refused-participants, tables-stopped, tables-verdict, tables-told-accepted, known-sizes, known-told, read-limits, run-accepted, run-refused, run-participants}
+use Rattle.desk.proofs.verdict.judge_tables.Statement.{statement}
+use Rattle.desk.proofs.verdict.judge_tables.Tie as tie
+
+abbrev start-at : tie.After-read-tables → tie.Start
+start-at c = c .before .before .before .before .before
+
+abbrev sheet-at : tie.After-read-tables → List ℕ
+sheet-at c = start-at c .args .sheet .now
+
+returns : tie.Need-returns
+returns c =
+    let r = c .before .before in
+    let s = start-at r in
+    let b = sheet-at r in
+    let a = r .read-tables .result in
+    let stop = tables-stopped b a (c .match .keys2) (r .read-tables .ensures .0) in
+    let same = tables-verdict b (s .args .sizes) (s .pre .0) stop in
+    (refused-ends b a (tablesVerdict b accepted) stop same _ (s .pre .2), refused-participants b a (tablesVerdict b accepted) stop same _)
+
+-- ---- none of 5 to 9 holds
+
+abbrev read-at : tie.After-known-told → tie.After-read-tables
+read-at c = c .before .before .before .before
+
+abbrev sizes-at : tie.After-known-told → Sizes
+sizes-at c = start-at (read-at c) .args .sizes
+
+-- the tables tell the sizes that the trailer told
+told-at : (c : tie.After-known-told)
+    → outcomeOf (AcceptedAnswer (sizes-at c)) ≡ readOutcome (sheet-at (read-at c)) (tablesVerdict (sheet-at (read-at c)) accepted)
+told-at c =
+    known-told (sheet-at (read-at c)) (sizes-at c) (start-at (read-at c) .pre .0) (c .before .read .given .0 .0)
+    (ap outcomeOf (sym (c .before .read .given .1)) ∙ read-at c .read-tables .ensures .0)
+
+same-at : (c : tie.After-known-told) → c .before .read .given .0 .0 ≡ sizes-at c
+same-at c =
+    known-sizes (sheet-at (read-at c)) (sizes-at c) (start-at (read-at c) .pre .0) (c .before .read .given .0 .0)
+    (ap outcomeOf (sym (c .before .read .given .1)) ∙ read-at c .read-tables .ensures .0)
+
+limits-at : (c : tie.After-known-told) → InLimits (sheet-at (read-at c))
+limits-at c = read-limits (sheet-at (read-at c)) (sizes-at c) (start-at (read-at c) .pre .0) (sizes-at c) (told-at c)
+
+-- where the steps begin, before the trailer
+steps-at : (c : tie.After-known-told) → sizes-at c .s + 10 ≤ length (sheet-at (read-at c))
+steps-at c =
+    let l = limits-at c in
+    let last = l .trailer-last .2 in
+    let e = tables-told-accepted (sheet-at (read-at c)) (sizes-at c) (start-at (read-at c) .pre .0) (sizes-at c) (told-at c) .4 in
+    omega arith
+
+sub-end : tie.Need-sub-end
+sub-end c = let h = steps-at c in omega arith
+
+slice-aggregate-run-from-start : tie.Need-slice-aggregate-run-from-start
+slice-aggregate-run-from-start c =
+    let k = c .before in
+    let h = steps-at k in
+    sym (length-take-le (sizes-at k .s) (sheet-at (read-at k)) (omega arith))
+
+sub-run-from-start : tie.Need-sub-run-from-start
+sub-run-from-start c = let h = steps-at (c .before) in omega arith
+
+part-run-from-start-start : tie.Need-part-run-from-start-start
+part-run-from-start-start c = let h = steps-at (c .before) in omega arith
+
+run-from-start-requires : tie.Need-run-from-start-requires
+run-from-start-requires c κs =
+    let k = c .before .before .before .before .before in
+    let r = read-at k in
+    let s = start-at r in
+    let b = sheet-at r in
+    let z = sizes-at k in
+    let told = tables-told-accepted b z (s .pre .0) z (told-at k) in (
+      front-sound b (z .n) (z .m) (z .s) (told .1) (told .2) (told .4) (limits-at k),
+      section-short b (z .s) (told .4) (limits-at k),
+      s .pre .2,
+      r .read-tables .ensures .1 (k .before .read .given .1 ∙ ap AcceptedAnswer (same-at k)),
+      s .pre .1,
+    )
+
+-- ---- after the run
+
+abbrev known-at : tie.After-run-from-start → tie.After-known-told
+known-at c = c .before .before .before .before .before .before
+
+participants-left : (c : tie.After-run-from-start)
+    → ParticipantsLeft (sheet-at (read-at (known-at c))) (c .run-from-start .last .1 .1 .1 .1 .1 .0)
+participants-left c =
+    let k = known-at c in
+    run-participants (sheet-at (read-at k)) (sizes-at k) (start-at (read-at k) .pre .0) (sizes-at k) (told-at k) _ (c .run-from-start .ensures .1)
+
+returns-2 : tie.Need-returns-2
+returns-2 c =
+    let ran = c .before .before .before .before .before in
+    let k = known-at ran in (
+      run-accepted (sheet-at (read-at k)) (sizes-at k) (start-at (read-at k) .pre .0) (sizes-at k) (told-at k) (ran .run-from-start .result)
+          (ran .run-from-start .last .1 .1 .1 .1 .1 .1 .0) (ran .run-from-start .ensures .0) (c .match2 .keys2),
+      participants-left ran,
+    )
+
+returns-3 : tie.Need-returns-3
+returns-3 c =
+    let g = c .before .ran .given in
+    let ran = c .before .before .before .before .before .before .before in
+    let k = known-at ran in (
+      run-refused (sheet-at (read-at k)) (sizes-at k) (start-at (read-at k) .pre .0) (sizes-at k) (told-at k) (ran .run-from-start .result)
+          (ran .run-from-start .last .1 .1 .1 .1 .1 .1 .0) (ran .run-from-start .ensures .0) (g .0 .0) (g .0 .1 .0) (g .0 .1 .1 .0) (g .1),
+      participants-left ran,
+    )
+
+pub judge-tables-spec : {M : Type 1} → statement M
+judge-tables-spec =
+    tie.close
+    (tie.spec
+    (λ c. search needs)
+    (λ c κs. search needs)
+    (λ c. search needs)
+    returns
+    sub-end
+    slice-aggregate-run-from-start
+    sub-run-from-start
+    part-run-from-start-start
+    (λ c. search needs)
+    (λ c. search needs)
+    run-from-start-requires
+    (λ c. search needs)
+    (λ c. search needs)
+    (λ c. search needs)
+    returns-2
+    (λ c. search needs)
+    (λ c. search needs)
+    returns-3)

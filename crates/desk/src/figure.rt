@@ -1,0 +1,54 @@
+// The concurrency figure of a sheet.
+ghost use mathlib.Core.Path.{_≡_};
+ghost use Prim.Native.Nat.{_≤_};
+ghost use lib.ListN.{length};
+ghost use Rattle.answers.specs.Restated.{restatedSteps};
+ghost use Rattle.answers.specs.Figure.{quotient, figure};
+ghost use Rattle.desk.specs.AcceptedSheet.{AcceptedSheet};
+ghost use Rattle.desk.specs.Calls.{FigureAnswer};
+use crate::restate;
+use crate::verdict;
+use answers::Answer;
+use answers::Sizes;
+
+// Ten times the actions over the steps, to the nearest whole number, halves up; 0 without steps.
+fn rounded(actions: u64, steps: u64) -> u64
+    requires { ⌜ (actions ≤ 1024) × (steps ≤ 1024) ⌝ }
+    ensures { λ r. ⌜ r ≡ quotient actions steps ⌝ }
+{
+    if steps == 0 {
+        return 0;
+    }
+    (20 * actions + steps) / (2 * steps)
+}
+
+// The figure of an accepted sheet that has `count` restated steps.
+pub fn figure_with(sheet: &[u8], sizes: Sizes, count: usize) -> u64
+    requires { ⌜ AcceptedSheet (now sheet) sizes × (count ≤ 1024) × (count ≡ length (restatedSteps (now sheet))) ⌝ }
+    ensures { λ r. ⌜ r ≡ figure (now (sheet .entry)) ⌝ }
+{
+    let s = sizes.s;
+    let end = sheet.len() - 10;
+    rounded(reading::actions_in(&sheet[s..end]), count as u64)
+}
+
+// The figure of an accepted sheet.
+fn figure_at(sheet: &[u8], sizes: Sizes) -> u64
+    requires { ⌜ AcceptedSheet (now sheet) sizes ⌝ }
+    ensures { λ r. ⌜ r ≡ figure (now (sheet .entry)) ⌝ }
+{
+    let mut packed = [0u64; 1024];
+    let count = restate::pack_sheet(sheet, sizes, &mut packed);
+    figure_with(sheet, sizes, count)
+}
+
+// The concurrency figure of a sheet.
+pub fn figure_of(sheet: &[u8]) -> Answer
+    ensures { λ r. ⌜ FigureAnswer (now (sheet .entry)) r ⌝ }
+{
+    let answer = verdict::check(sheet);
+    let Answer::Accepted(sizes) = answer else {
+        return answer;
+    };
+    Answer::Given(figure_at(sheet, sizes))
+}

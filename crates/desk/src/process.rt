@@ -1,0 +1,36 @@
+// Whether an execution is a process execution.
+ghost use mathlib.Core.Path.{_≡_};
+ghost use mathlib.Core.List.{map};
+ghost use Rattle.sets.specs.Bits.{members};
+ghost use Rattle.traces.specs.Offences.{firstOffence, offending};
+ghost use Rattle.systems.specs.Independence.{dependent};
+ghost use Rattle.sheet.specs.Layout.{tables, steps};
+ghost use Rattle.desk.specs.AcceptedSheet.{AcceptedSheet};
+ghost use Rattle.desk.specs.Calls.{ProcessAnswer};
+use crate::verdict;
+use answers::Answer;
+use answers::Sizes;
+
+// One past the index of the first step of an accepted sheet that offends; 0 where none does.
+fn offence_at(sheet: &[u8], sizes: Sizes) -> u64
+    requires { ⌜ AcceptedSheet (now sheet) sizes ⌝ }
+    ensures { λ r. ⌜ r ≡ offending (firstOffence (dependent (tables (now (sheet .entry)))) (map members (steps (now (sheet .entry))))) ⌝ }
+{
+    let t = sizes.t;
+    let s = sizes.s;
+    let end = sheet.len() - 10;
+    let mut alphabets = [0u64; 16];
+    reading::alphabets(&sheet[0..t], sizes.n, &mut alphabets);
+    dependence::process::first_offence(&sheet[s..end], &alphabets, sizes.n)
+}
+
+// The process check: 0 for a process execution, else one past the index of the first step that offends.
+pub fn process_check(sheet: &[u8]) -> Answer
+    ensures { λ r. ⌜ ProcessAnswer (now (sheet .entry)) r ⌝ }
+{
+    let answer = verdict::check(sheet);
+    let Answer::Accepted(sizes) = answer else {
+        return answer;
+    };
+    Answer::Given(offence_at(sheet, sizes))
+}

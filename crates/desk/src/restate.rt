@@ -1,0 +1,79 @@
+// A sheet restated in normal form: its restated steps packed, and the sheet with them written into lent bytes.
+ghost use mathlib.Core.Path.{_≡_};
+ghost use lib.ListN.{replicate};
+ghost use Rattle.desk.specs.AcceptedSheet.{AcceptedSheet};
+ghost use Rattle.desk.specs.Left.{ParticipantsLeft, PackedSteps};
+ghost use Rattle.desk.specs.Calls.{RestateAnswer};
+use crate::verdict;
+use answers::Answer;
+use answers::Sizes;
+use dependence::participants;
+
+// Packs the steps of an accepted sheet into `packed`, which comes with zeros, by the components of each action, and gives back how many
+// restated steps there are.
+fn pack_steps(sheet: &[u8], sizes: Sizes, participants: &[u64], packed: &mut [u64]) -> usize
+    requires { ⌜ AcceptedSheet (now sheet) sizes × ParticipantsLeft (now sheet) (now participants) × (now packed ≡ replicate 1024 0) ⌝ }
+    ensures { λ r. ⌜ PackedSteps (now (sheet .entry)) (now (packed .exit)) r ⌝ }
+{
+    let s = sizes.s;
+    let end = sheet.len() - 10;
+    normal_form::pack(&sheet[s..end], participants, packed)
+}
+
+// The same where the components of each action are still to be found.
+pub fn pack_sheet(sheet: &[u8], sizes: Sizes, packed: &mut [u64]) -> usize
+    requires { ⌜ AcceptedSheet (now sheet) sizes × (now packed ≡ replicate 1024 0) ⌝ }
+    ensures { λ r. ⌜ PackedSteps (now (sheet .entry)) (now (packed .exit)) r ⌝ }
+{
+    let t = sizes.t;
+    let mut alphabets = [0u64; 16];
+    reading::alphabets(&sheet[0..t], sizes.n, &mut alphabets);
+    let mut participants = [0u64; 64];
+    participants::participants_of(&alphabets, sizes.n, &mut participants);
+    pack_steps(sheet, sizes, &participants, packed)
+}
+
+// Restates an accepted sheet, whose sizes and whose components of each action are known: 13 where the restated bytes do not fit.
+fn write_restated(sheet: &[u8], sizes: Sizes, participants: &[u64], out: &mut [u8]) -> Answer
+    requires { ⌜ AcceptedSheet (now sheet) sizes × ParticipantsLeft (now sheet) (now participants) ⌝ }
+    ensures { λ r. ⌜ RestateAnswer (now (sheet .entry)) (now (out .entry)) r (now (out .exit)) ⌝ }
+{
+    let s = sizes.s;
+    let mut packed = [0u64; 1024];
+    let count = pack_steps(sheet, sizes, participants, &mut packed);
+    let size = s + 8 * count + 10;
+    if out.len() < size {
+        return Answer::Refused {
+            number: 13,
+            index: 0,
+            sheet: 0,
+        };
+    }
+    writing::write_sheet(
+        &sheet[..s],
+        &packed,
+        count,
+        sizes.n as u8,
+        sizes.m as u8,
+        out,
+    );
+    Answer::Given(size as u64)
+}
+
+// Restates a sheet in normal form into the output: 13 only for an accepted sheet whose restated bytes do not fit. A refused call
+// leaves the output as it came, and bytes behind the restated sheet keep their values.
+pub fn restate(sheet: &[u8], out: &mut [u8]) -> Answer
+    ensures { λ r. ⌜ RestateAnswer (now (sheet .entry)) (now (out .entry)) r (now (out .exit)) ⌝ }
+{
+    let read = reading::read_trailer(sheet);
+    let Answer::Accepted(sizes) = read else {
+        return read;
+    };
+    let mut participants = [0u64; 64];
+    let mut held = [0u64; 16];
+    let judged = verdict::judge_tables(sheet, sizes, &mut participants, &mut held);
+    let Answer::Accepted(known) = judged else {
+        return judged;
+    };
+    write_restated(sheet, known, &participants, out)
+}

@@ -1,0 +1,124 @@
+// The verdict on a sheet, and where each component may be after its last step.
+ghost use mathlib.Core.Path.{_≡_};
+ghost use mathlib.Core.List.{map};
+ghost use Prim.Native.Nat.{_≤_};
+ghost use lib.ListN.{length, replicate};
+ghost use Rattle.sets.specs.Lists.{below};
+ghost use Rattle.reading.specs.Reading.{TrailerPassed};
+ghost use Rattle.desk.specs.Calls.{CheckAnswer, EndSetsAnswer};
+ghost use Rattle.desk.specs.Left.{keptOf, EndsLeft, ParticipantsLeft};
+use answers::Answer;
+use answers::Sizes;
+
+// The answer on a sheet, and for an accepted one the end set of each component.
+pub struct EndSets {
+    pub answer: Answer,
+    pub sets: [u64; 16],
+}
+
+// Refusals 5 to 12 of a sheet whose trailer passed, or its sizes. Of an accepted sheet the first sets held are the end sets of its
+// components, and `participants`, which comes with zeros, has the components of each action.
+pub fn judge_tables(
+    sheet: &[u8],
+    sizes: Sizes,
+    participants: &mut [u64],
+    held: &mut [u64],
+) -> Answer
+    requires { ⌜ TrailerPassed (now sheet) sizes × (now participants ≡ replicate 64 0) × (length (now held) ≡ 16) ⌝ }
+    ensures { λ r. ⌜ EndsLeft (now (sheet .entry)) r (now (held .exit)) × ParticipantsLeft (now (sheet .entry)) (now (participants .exit)) ⌝ }
+{
+    let mut alphabets = [0u64; 16];
+    let read = reading::read_tables(sheet, sizes, &mut alphabets);
+    let Answer::Accepted(known) = read else {
+        return read;
+    };
+    let s = sizes.s;
+    let end = sheet.len() - 10;
+    let ran = machine::run_from_start(
+        &sheet[..s],
+        &sheet[s..end],
+        sizes.n,
+        sizes.m,
+        &alphabets,
+        participants,
+        held,
+    );
+    let Answer::Refused {
+        number,
+        index,
+        sheet: of,
+    } = ran
+    else {
+        return Answer::Accepted(sizes);
+    };
+    Answer::Refused {
+        number,
+        index,
+        sheet: of,
+    }
+}
+
+// The verdict on a sheet. Of an accepted sheet the first sets held are the end sets of its components. The sheet is handed on as a part,
+// whose bounds are in registers; the bounds of the sheet itself would be copied in memory.
+fn judge(sheet: &[u8], held: &mut [u64]) -> Answer
+    requires { ⌜ length (now held) ≡ 16 ⌝ }
+    ensures { λ r. ⌜ EndsLeft (now (sheet .entry)) r (now (held .exit)) ⌝ }
+{
+    let read = reading::read_trailer(sheet);
+    let Answer::Accepted(sizes) = read else {
+        return read;
+    };
+    let mut participants = [0u64; 64];
+    judge_tables(&sheet[0..], sizes, &mut participants, held)
+}
+
+// The verdict on a sheet: accepted with its sizes, or refused with number and step index.
+pub fn check(sheet: &[u8]) -> Answer
+    ensures { λ r. ⌜ CheckAnswer (now (sheet .entry)) r ⌝ }
+{
+    let mut held = [0u64; 16];
+    judge(sheet, &mut held)
+}
+
+// The set with index j where j is below n, else the empty set.
+fn kept(held: &[u64], n: usize, j: usize) -> u64
+    requires { ⌜ n ≤ length (now held) ⌝ }
+    ensures { λ r. ⌜ r ≡ keptOf (now (held .entry)) n j ⌝ }
+{
+    if j < n {
+        return held[j];
+    }
+    0
+}
+
+// The first n sets, and 0 for the others.
+fn first_sets(held: &[u64], n: usize) -> [u64; 16]
+    requires { ⌜ n ≤ length (now held) ⌝ }
+    ensures { λ r. ⌜ r ≡ map (keptOf (now (held .entry)) n) (below 16) ⌝ }
+{
+    let mut sets = [0u64; 16];
+    let mut j = 0;
+    while j < 16 {
+        sets[j] = kept(held, n, j);
+        j += 1;
+    }
+    sets
+}
+
+// The end sets of a sheet: where each component may be after the last step.
+pub fn end_sets(sheet: &[u8]) -> EndSets
+    ensures { λ r. ⌜ EndSetsAnswer (now (sheet .entry)) r ⌝ }
+{
+    let mut held = [0u64; 16];
+    let answer = judge(sheet, &mut held);
+    let Answer::Accepted(sizes) = answer else {
+        return EndSets {
+            answer,
+            sets: [0u64; 16],
+        };
+    };
+    EndSets {
+        answer,
+        sets: first_sets(&held, sizes.n),
+    }
+}

@@ -1,0 +1,128 @@
+-- Every refusal of a call fits into one number: its number is at most 14, its sheet 0 or 1, its step index below the number of steps.
+-- Assumes nothing.
+use mathlib.Core.Path.{_≡_, refl, sym, subst}
+use mathlib.Core.Bool.{Bool, true, false, cond}
+use mathlib.Core.List.{List, map}
+use Prim.Native.Nat.{ℕ, _≤_, _<_}
+use native.Mathlib.Omega.{arith}
+use lib.Dec.{ltb}
+use lib.ListN.{length}
+use Rattle.sets.specs.Bits.{members}
+use Rattle.traces.specs.Offences.{firstOffence, offending}
+use Rattle.systems.specs.Independence.{dependent}
+use Rattle.sheet.specs.Layout.{tables, stepCount, steps}
+use Rattle.sheet.specs.Refusals.{sameBytes, lengthWrong, refusal}
+use Rattle.sheet.specs.Verdict.{Verdict, accepted, refused, verdict, IsVerdict, sheet-refused, step-refused, all-passed}
+use Rattle.sheet.proofs.Limits.{length-right}
+use Rattle.sheet.proofs.RoundTrip.{steps-length}
+use Rattle.sheet.proofs.Verdicts.{verdict-first, verdict-number}
+use Rattle.answers.specs.declared.Answer.{Answer}
+use Rattle.answers.specs.Outcomes.{Outcome, given, values, single, bit, outcomeOf, onSheet, after}
+use Rattle.answers.specs.LentOutput.{unlessShort, fitting}
+use Rattle.answers.specs.ProcessCheck.{processCheck}
+use Rattle.answers.specs.Restated.{restatedSteps, restated}
+use Rattle.answers.specs.Restating.{restating}
+use Rattle.answers.specs.Figure.{figure, figureOutcome}
+use Rattle.answers.specs.Stuck.{stuck, stuckOutcome}
+use Rattle.answers.specs.Report.{report, reporting}
+use Rattle.answers.specs.SameWork.{sameWork}
+use Rattle.answers.specs.Leaner.{winner}
+use Rattle.answers.specs.TwoSheets.{tablesDiffer, unlessDiffer, ofPair}
+use Rattle.oatmist.specs.Convention.{Packable, CAnswer}
+
+length-first : (b : List ℕ) → ((k : ℕ) → refusal b k ≡ false) → lengthWrong b ≡ false
+unfolding refusal
+length-first b h = h 1
+
+step-count-high : (b : List ℕ) → stepCount b ≤ length b
+unfolding stepCount
+step-count-high b = omega arith
+
+verdict-small : (b : List ℕ) (k i : ℕ) → verdict b ≡ refused k i → (k ≤ 12) × (i ≤ 16650)
+verdict-small b k i e = (verdict-number b k i e .1, go (verdict-first b) e)
+  where
+    go : {v : Verdict} → IsVerdict b v → v ≡ refused k i → i ≤ 16650
+    go (sheet-refused l h before) q = let z : 0 ≡ i = cc in omega arith
+    go (step-refused f passed f-first) q =
+        let j : f .index ≡ i = cc in
+        let below = f-first .step-below in
+        let count = steps-length b in
+        let high = step-count-high b in
+        let long = length-right b .0 (length-first b passed) .1 in
+        omega arith
+    go (all-passed passed faultless) q = let z : _≡_ {A = ℕ} 0 1 = cc in absurd (omega arith)
+
+module _ {A : Type 0} (f : A → List ℕ) where
+  -- what comes after the verdict on a sheet
+  pub packable-on : (s : ℕ) → s < 256 → (b : List ℕ) (x : Outcome A) → Packable (values f x) → Packable (values f (onSheet s (verdict b) x))
+  packable-on s small b x p = go (verdict b) refl
+    where
+      go : (v : Verdict) → verdict b ≡ v → Packable (values f (onSheet s v x))
+      go accepted e = p
+      go (refused k i) e = let h = verdict-small b k i e in (omega arith, small, omega arith)
+
+  pub packable-after : (b : List ℕ) (x : A) → Packable (values f (after (verdict b) (given x)))
+  packable-after b x = packable-on 0 (omega arith) b (given x) tt
+
+  pub packable-pair : (b c : List ℕ) (x : A) → Packable (values f (ofPair b c x))
+  unfolding ofPair
+  packable-pair b c x =
+      packable-on 0 (omega arith) b (onSheet 1 (verdict c) (unlessDiffer (tablesDiffer b c) x))
+      (packable-on 1 (omega arith) c (unlessDiffer (tablesDiffer b c) x) (differ (tablesDiffer b c)))
+    where
+      differ : (d : Bool) → Packable (values f (unlessDiffer d x))
+      differ true = (omega arith, omega arith, omega arith)
+      differ false = tt
+
+pub packable-fitting : (f : ℕ → List ℕ) (text : List ℕ) (size : ℕ) → Packable (values f (fitting text size))
+unfolding fitting
+packable-fitting f text size = go (ltb size (length text))
+  where
+    go : (t : Bool) → Packable (values f (unlessShort t (length text)))
+    go true = (omega arith, omega arith, omega arith)
+    go false = tt
+
+pub packable-read : (b : List ℕ) (x : List ℕ) → Packable (after (verdict b) (given x))
+packable-read b x = go (verdict b) refl
+  where
+    go : (v : Verdict) → verdict b ≡ v → Packable (after v (given x))
+    go accepted e = tt
+    go (refused k i) e = let h = verdict-small b k i e in (omega arith, omega arith, omega arith)
+
+-- ---- the outcome of each call
+
+pub packable-process : (b : List ℕ) → Packable (values (λ o. single (offending o)) (processCheck b))
+unfolding processCheck
+packable-process b = packable-after (λ o. single (offending o)) b (firstOffence (dependent (tables b)) (map members (steps b)))
+
+pub packable-restate : (b : List ℕ) (size : ℕ) → Packable (values single (restating b size))
+unfolding restating
+packable-restate b size = packable-on single 0 (omega arith) b (fitting (restated b) size) (packable-fitting single (restated b) size)
+
+pub packable-figure : (b : List ℕ) → Packable (values single (figureOutcome b))
+unfolding figureOutcome
+packable-figure b = packable-after single b (figure b)
+
+pub packable-stuck : (b : List ℕ) → Packable (values (λ t. single (bit t)) (stuckOutcome b))
+unfolding stuckOutcome
+packable-stuck b = packable-after (λ t. single (bit t)) b (stuck b)
+
+pub packable-report : (b : List ℕ) (size : ℕ) → Packable (values single (reporting b size))
+unfolding reporting
+packable-report b size = packable-fitting single (report b) size
+
+pub packable-work : (b c : List ℕ) → Packable (values (λ t. single (bit t)) (sameWork b c))
+unfolding sameWork
+packable-work b c = packable-pair (λ t. single (bit t)) b c (sameBytes (restatedSteps b) (restatedSteps c))
+
+pub packable-winner : (b c : List ℕ) → Packable (values single (winner b c))
+unfolding winner
+packable-winner b c = packable-pair single b c (cond (ltb (length (restatedSteps c)) (length (restatedSteps b))) 1 0)
+
+-- ---- an answer told as an equal outcome
+
+pub packable-told : (told : Answer) (o : Outcome (List ℕ)) → outcomeOf told ≡ o → Packable o → Packable (outcomeOf told)
+packable-told told o e p = subst Packable (sym e) p
+
+pub handed-told : (told : Answer) (o : Outcome (List ℕ)) → outcomeOf told ≡ o → (r : ℕ) (old new : List ℕ) → CAnswer (outcomeOf told) r old new → CAnswer o r old new
+handed-told told o e r old new h = subst (λ (x : Outcome (List ℕ)). CAnswer x r old new) e h

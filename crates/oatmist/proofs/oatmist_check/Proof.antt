@@ -1,0 +1,21 @@
+-- `oatmist::oatmist_check` meets its contract: the verdict is handed back.
+-- Assumes nothing.
+use borrow.Author.Needs.{needs}
+use Rattle.oatmist.proofs.Packing.{packable-read, packable-told, handed-told}
+use Rattle.oatmist.proofs.oatmist_check.Statement.{statement}
+use Rattle.oatmist.proofs.oatmist_check.Tie as tie
+
+hand-requires : tie.Need-hand-requires
+hand-requires c κs =
+    let told = c .before .check in
+    let a = c .before .before .before .before .args in
+    packable-told (told .result) _ (told .ensures) (packable-read (a .sheet .now) _)
+
+returns : tie.Need-returns
+returns c =
+    let made = c .before .before in
+    let told = made .before .before .check in
+    handed-told (told .result) _ (told .ensures) _ _ _ (made .hand .ensures)
+
+pub oatmist-check-spec : {M : Type 1} → statement M
+oatmist-check-spec = tie.close (tie.spec (λ c κs. search needs) hand-requires (λ c. search needs) returns)

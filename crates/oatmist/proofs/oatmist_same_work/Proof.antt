@@ -1,0 +1,21 @@
+-- `oatmist::oatmist_same_work` meets its contract: whether the two do the same work is handed back.
+-- Assumes nothing.
+use borrow.Author.Needs.{needs}
+use Rattle.oatmist.proofs.Packing.{packable-work, packable-told, handed-told}
+use Rattle.oatmist.proofs.oatmist_same_work.Statement.{statement}
+use Rattle.oatmist.proofs.oatmist_same_work.Tie as tie
+
+hand-requires : tie.Need-hand-requires
+hand-requires c κs =
+    let told = c .before .same-work in
+    let a = c .before .before .before .before .before .args in
+    packable-told (told .result) _ (told .ensures) (packable-work (a .first .now) (a .second .now))
+
+returns : tie.Need-returns
+returns c =
+    let made = c .before .before in
+    let told = made .before .before .same-work in
+    handed-told (told .result) _ (told .ensures) _ _ _ (made .hand .ensures)
+
+pub oatmist-same-work-spec : {M : Type 1} → statement M
+oatmist-same-work-spec = tie.close (tie.spec (λ c κs. search needs) hand-requires (λ c. search needs) returns)

@@ -1,0 +1,21 @@
+-- `oatmist::oatmist_stuck` meets its contract: whether the sheet is stuck is handed back.
+-- Assumes nothing.
+use borrow.Author.Needs.{needs}
+use Rattle.oatmist.proofs.Packing.{packable-stuck, packable-told, handed-told}
+use Rattle.oatmist.proofs.oatmist_stuck.Statement.{statement}
+use Rattle.oatmist.proofs.oatmist_stuck.Tie as tie
+
+hand-requires : tie.Need-hand-requires
+hand-requires c κs =
+    let told = c .before .is-stuck in
+    let a = c .before .before .before .before .args in
+    packable-told (told .result) _ (told .ensures) (packable-stuck (a .sheet .now))
+
+returns : tie.Need-returns
+returns c =
+    let made = c .before .before in
+    let told = made .before .before .is-stuck in
+    handed-told (told .result) _ (told .ensures) _ _ _ (made .hand .ensures)
+
+pub oatmist-stuck-spec : {M : Type 1} → statement M
+oatmist-stuck-spec = tie.close (tie.spec (λ c κs. search needs) hand-requires (λ c. search needs) returns)

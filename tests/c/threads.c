@@ -1,0 +1,221 @@
+/* What oatmist.h says of the stack and of threads. Each call is run in a thread whose stack was painted before, and what it painted over
+   must keep within what is said there; then all calls are made side by side in several threads, and must answer as they do alone. With an
+   argument the bytes of stack are printed too. The last line is 'N passed, 0 failed'. */
+#define _DEFAULT_SOURCE
+#include "oatmist.h"
+#include <pthread.h>
+#include <stdio.h>
+#include <string.h>
+#include <sys/mman.h>
+
+static int passed, failed;
+
+/* ---- sheets ---- */
+
+static uint8_t smallest[OATMIST_SHORTEST_SHEET], largest[OATMIST_LONGEST_SHEET], internal[OATMIST_LONGEST_SHEET];
+
+static const struct sheet {
+    const char *name;
+    const uint8_t *bytes;
+    size_t length;
+} sheets[] = {{"smallest", smallest, sizeof smallest}, {"largest", largest, sizeof largest}, {"internal", internal, sizeof internal}};
+#define SHEETS (sizeof sheets / sizeof sheets[0])
+
+static void put2(uint8_t *bytes, size_t value) {
+    bytes[0] = (uint8_t)(value & 255);
+    bytes[1] = (uint8_t)(value >> 8);
+}
+
+static void put_transition(uint8_t *bytes, size_t component, size_t source, size_t label, size_t target) {
+    bytes[0] = (uint8_t)component;
+    bytes[1] = (uint8_t)source;
+    bytes[2] = (uint8_t)label;
+    bytes[3] = (uint8_t)target;
+}
+
+/* Components with states, and actions of their own. Where there are several states each goes on to another by every action of its
+   component and, if so asked, by an internal move. The steps are single actions, each in its turn. */
+static void make(uint8_t *sheet, size_t components, size_t states, size_t actions, int moves, size_t steps) {
+    uint8_t *at = sheet;
+    size_t j, q, a, k;
+    for (j = 0; j < components; j++, at += 16) {
+        memset(at, 0, 16);
+        at[0] = (uint8_t)states;
+        at[4] = 1;
+        for (a = actions * j; a < actions * (j + 1); a++)
+            at[8 + a / 8] = (uint8_t)(at[8 + a / 8] | 1 << a % 8);
+    }
+    for (j = 0; j < components && states > 1; j++)
+        for (q = 0; q < states; q++) {
+            for (a = actions * j; a < actions * (j + 1); a++, at += 4)
+                put_transition(at, j, q, a, (q + a + 1) % states);
+            if (moves) {
+                put_transition(at, j, q, 255, (q + 1) % states);
+                at += 4;
+            }
+        }
+    size_t begin = (size_t)(at - sheet);
+    for (k = 0; k < steps; k++, at += 8) {
+        a = k % (components * actions);
+        memset(at, 0, 8);
+        at[a / 8] = (uint8_t)(1 << a % 8);
+    }
+    put2(at, 0);
+    put2(at + 2, 16 * components);
+    put2(at + 4, begin);
+    at[6] = (uint8_t)components;
+    at[7] = (uint8_t)(components * actions);
+    at[8] = 0x46;
+    at[9] = 0x53;
+}
+
+/* ---- the calls: each on a sheet, those on two on the same one twice ---- */
+
+/* What is lent to a call. */
+struct lent {
+    uint8_t out[OATMIST_LONGEST_SHEET];
+    uint64_t values[OATMIST_COMPONENTS];
+    struct oatmist_part part;
+};
+
+#define CALL(name, arguments) \
+    static uint64_t name(const uint8_t *s, size_t l, struct lent *lent) { return oatmist_##name arguments; }
+CALL(check, (s, l, lent->values, OATMIST_COMPONENTS))
+CALL(end_sets, (s, l, lent->values, OATMIST_COMPONENTS))
+CALL(process, (s, l, lent->values, OATMIST_COMPONENTS))
+CALL(figure, (s, l, lent->values, OATMIST_COMPONENTS))
+CALL(stuck, (s, l, lent->values, OATMIST_COMPONENTS))
+CALL(restate, (s, l, lent->out, sizeof lent->out, lent->values, OATMIST_COMPONENTS))
+CALL(report, (s, l, lent->out, sizeof lent->out, lent->values, OATMIST_COMPONENTS))
+CALL(same_work, (s, l, s, l, lent->values, OATMIST_COMPONENTS))
+CALL(winner, (s, l, s, l, lent->values, OATMIST_COMPONENTS))
+static uint64_t leaner(const uint8_t *s, size_t l, struct lent *lent) {
+    oatmist_leaner(s, l, s, l, &lent->part);
+    return 0;
+}
+
+/* Each call, and the KiB of stack that oatmist.h says it takes at most. */
+static const struct {
+    const char *name;
+    uint64_t (*make)(const uint8_t *, size_t, struct lent *);
+    size_t kib;
+} calls[] = {{"check", check, 8},     {"end_sets", end_sets, 9}, {"process", process, 8},      {"figure", figure, 16},  {"stuck", stuck, 9},
+             {"restate", restate, 16}, {"report", report, 33},    {"same_work", same_work, 24}, {"winner", winner, 16}, {"leaner", leaner, 16}};
+#define CALLS (sizeof calls / sizeof calls[0])
+
+/* ---- the stack ---- */
+
+#define ROOM (1024 * 1024) /* the stack of the thread */
+#define PAINT 0xa5
+
+/* One call in a thread of its own. */
+struct job {
+    size_t call;
+    const struct sheet *sheet;
+    uint64_t told;
+    char *from; /* where its caller's frame is */
+};
+
+static void *run(void *given) {
+    static struct lent lent;
+    struct job *job = (struct job *)given;
+    job->from = (char *)__builtin_frame_address(0);
+    job->told = calls[job->call].make(job->sheet->bytes, job->sheet->length, &lent);
+    return NULL;
+}
+
+/* The bytes of stack that a call wrote, up to its caller's frame; 0 where the call was not made, or refused. */
+static size_t taken(size_t call, const struct sheet *sheet) {
+    struct job job = {call, sheet, 1, NULL};
+    pthread_attr_t attributes;
+    pthread_t thread;
+    size_t lowest = 0;
+    char *stack = (char *)mmap(NULL, ROOM, PROT_READ | PROT_WRITE, MAP_PRIVATE | MAP_ANONYMOUS, -1, 0);
+    if (stack == MAP_FAILED)
+        return 0;
+    memset(stack, PAINT, ROOM);
+    if (pthread_attr_init(&attributes) == 0 && pthread_attr_setstack(&attributes, stack, ROOM) == 0 &&
+        pthread_create(&thread, &attributes, run, &job) == 0)
+        pthread_join(thread, NULL);
+    while (lowest < ROOM && (uint8_t)stack[lowest] == PAINT)
+        lowest++;
+    munmap(stack, ROOM);
+    return job.told == 0 ? (size_t)(job.from - stack) - lowest : 0;
+}
+
+static void stacks(int printed) {
+    size_t call, k;
+    for (call = 0; call < CALLS; call++)
+        for (k = 0; k < SHEETS; k++) {
+            taken(call, &sheets[k]); /* once before: the C library's functions are then found */
+            size_t bytes = taken(call, &sheets[k]);
+            if (bytes > 0 && bytes <= 1024 * calls[call].kib && bytes <= OATMIST_STACK) {
+                passed++;
+            } else {
+                failed++;
+                printf("FAILED: %s, %s sheet: %zu bytes of stack\n", calls[call].name, sheets[k].name, bytes);
+            }
+            if (printed)
+                printf("%-10s %-8s sheet: %6zu bytes of stack\n", calls[call].name, sheets[k].name, bytes);
+        }
+}
+
+/* ---- side by side ---- */
+
+#define THREADS 4
+#define TURNS 100
+
+/* All calls on all sheets, one after another; what each returned and wrote. */
+struct answers {
+    uint64_t told[CALLS][SHEETS];
+    struct lent lent[CALLS][SHEETS];
+};
+
+static struct answers alone, beside[THREADS];
+
+static void ask(struct answers *answers) {
+    size_t call, k;
+    memset(answers, 0, sizeof *answers);
+    for (call = 0; call < CALLS; call++)
+        for (k = 0; k < SHEETS; k++)
+            answers->told[call][k] = calls[call].make(sheets[k].bytes, sheets[k].length, &answers->lent[call][k]);
+}
+
+/* The same again and again; gives back its argument where nothing ever differed. */
+static void *again(void *given) {
+    int turn;
+    for (turn = 0; turn < TURNS; turn++) {
+        ask((struct answers *)given);
+        if (memcmp(given, &alone, sizeof alone) != 0)
+            return NULL;
+    }
+    return given;
+}
+
+static void side_by_side(void) {
+    pthread_t threads[THREADS];
+    int begun[THREADS], k;
+    ask(&alone);
+    for (k = 0; k < THREADS; k++)
+        begun[k] = pthread_create(&threads[k], NULL, again, &beside[k]) == 0;
+    for (k = 0; k < THREADS; k++) {
+        void *same = NULL;
+        if (begun[k] && pthread_join(threads[k], &same) == 0 && same == &beside[k]) {
+            passed++;
+        } else {
+            failed++;
+            printf("FAILED: thread %d got other answers than a thread alone\n", k);
+        }
+    }
+}
+
+int main(int count, char **arguments) {
+    (void)arguments;
+    make(smallest, 1, 1, 1, 0, 0);
+    make(largest, 16, 32, 4, 0, 1024);
+    make(internal, 16, 32, 3, 1, 1024);
+    stacks(count > 1);
+    side_by_side();
+    printf("%d passed, %d failed\n", passed, failed);
+    return failed != 0;
+}
