@@ -38,8 +38,8 @@ step-count-high : (b : List ℕ) → stepCount b ≤ length b
 unfolding stepCount
 step-count-high b = omega arith
 
-verdict-small : (b : List ℕ) (k i : ℕ) → verdict b ≡ refused k i → (k ≤ 12) × (i ≤ 16650)
-verdict-small b k i e = (verdict-number b k i e .1, go (verdict-first b) e)
+verdict-small : (b : List ℕ) (k i : ℕ) → verdict b ≡ refused k i → (1 ≤ k) × (k ≤ 12) × (i ≤ 16650)
+verdict-small b k i e = let n = verdict-number b k i e in (n .0, n .1, go (verdict-first b) e)
   where
     go : {v : Verdict} → IsVerdict b v → v ≡ refused k i → i ≤ 16650
     go (sheet-refused l h before) q = let z : 0 ≡ i = cc in omega arith
@@ -59,7 +59,7 @@ module _ {A : Type 0} (f : A → List ℕ) where
     where
       go : (v : Verdict) → verdict b ≡ v → Packable (values f (onSheet s v x))
       go accepted e = p
-      go (refused k i) e = let h = verdict-small b k i e in (omega arith, small, omega arith)
+      go (refused k i) e = let h = verdict-small b k i e in (h .0, omega arith, small, omega arith)
 
   pub packable-after : (b : List ℕ) (x : A) → Packable (values f (after (verdict b) (given x)))
   packable-after b x = packable-on 0 (omega arith) b (given x) tt
@@ -71,7 +71,7 @@ module _ {A : Type 0} (f : A → List ℕ) where
       (packable-on 1 (omega arith) c (unlessDiffer (tablesDiffer b c) x) (differ (tablesDiffer b c)))
     where
       differ : (d : Bool) → Packable (values f (unlessDiffer d x))
-      differ true = (omega arith, omega arith, omega arith)
+      differ true = (omega arith, omega arith, omega arith, omega arith)
       differ false = tt
 
 pub packable-fitting : (f : ℕ → List ℕ) (text : List ℕ) (size : ℕ) → Packable (values f (fitting text size))
@@ -79,7 +79,7 @@ unfolding fitting
 packable-fitting f text size = go (ltb size (length text))
   where
     go : (t : Bool) → Packable (values f (unlessShort t (length text)))
-    go true = (omega arith, omega arith, omega arith)
+    go true = (omega arith, omega arith, omega arith, omega arith)
     go false = tt
 
 pub packable-read : (b : List ℕ) (x : List ℕ) → Packable (after (verdict b) (given x))
@@ -87,7 +87,7 @@ packable-read b x = go (verdict b) refl
   where
     go : (v : Verdict) → verdict b ≡ v → Packable (after v (given x))
     go accepted e = tt
-    go (refused k i) e = let h = verdict-small b k i e in (omega arith, omega arith, omega arith)
+    go (refused k i) e = let h = verdict-small b k i e in (h .0, omega arith, omega arith, omega arith)
 
 -- ---- the outcome of each call
 

@@ -2,7 +2,7 @@
 -- Assumes nothing.
 use mathlib.Core.Path.{_≡_}
 use mathlib.Core.List.{List}
-use Prim.Native.Nat.{ℕ, _+_, _*_, _<_, _^_}
+use Prim.Native.Nat.{ℕ, _+_, _*_, _≤_, _<_, _^_}
 use lib.ListN.{length, take}
 use Rattle.sets.specs.Lists.{over}
 use Rattle.answers.specs.Outcomes.{Outcome, given, refused}
@@ -20,7 +20,7 @@ abbrev pub CAnswer : Outcome (List ℕ) → ℕ → List ℕ → List ℕ → Ty
 CAnswer (given xs) r old new = (r ≡ 0) × (new ≡ filled xs old)
 CAnswer (refused k i s) r old new = (r ≡ refusalWord k i s) × (new ≡ old)
 
--- a refusal whose parts fit into their bits
+-- a refusal whose parts fit into their bits, and whose number is not 0
 abbrev pub Packable : Outcome (List ℕ) → Type 0
 Packable (given xs) = Unit {0}
-Packable (refused k i s) = (k < 256) × (s < 256) × (i < 2 ^ 40)
+Packable (refused k i s) = (1 ≤ k) × (k < 256) × (s < 256) × (i < 2 ^ 40)

@@ -1,9 +1,12 @@
 // How a call for C tells its answer: 0 and the values in front of a lent array, or the refusal as one number and the array as it came.
 ghost use mathlib.Core.Path.{_≡_};
 ghost use Prim.Native.Nat.{min, _<_, _^_};
+ghost use lib.ListN.{set};
+ghost use Rattle.answers.specs.declared.Answer.the-variants.{Accepted};
 ghost use Rattle.answers.specs.Outcomes.{outcomeOf};
 ghost use Rattle.oatmist.specs.Convention.{filled, refusalWord, Packable, CAnswer};
 use answers::Answer;
+use answers::Sizes;
 
 // The smaller of two lengths.
 fn smaller(a: usize, b: usize) -> usize
@@ -35,22 +38,33 @@ fn refusal_word(number: u64, index: u64, sheet: u64) -> u64
     number + 256 * sheet + 65536 * index
 }
 
+// Writes a value where there is room for it.
+fn put(out: &mut [u64], k: usize, value: u64)
+    ensures { λ _. ⌜ now (out .exit) ≡ set (now (out .entry)) k value ⌝ }
+{
+    if k < out.len() {
+        out[k] = value;
+    }
+}
+
+// Hands back the sizes of an accepted sheet, one by one: copied as a whole, they would be read before all of them are written.
+fn hand_sizes(sizes: Sizes, out: &mut [u64]) -> u64
+    ensures { λ r. ⌜ CAnswer (outcomeOf (Accepted sizes)) r (now (out .entry)) (now (out .exit)) ⌝ }
+{
+    put(out, 0, sizes.n as u64);
+    put(out, 1, sizes.m as u64);
+    put(out, 2, sizes.t as u64);
+    put(out, 3, sizes.s as u64);
+    0
+}
+
 // Hands an answer back.
 pub fn hand(told: Answer, out: &mut [u64]) -> u64
     requires { ⌜ Packable (outcomeOf told) ⌝ }
     ensures { λ r. ⌜ CAnswer (outcomeOf told) r (now (out .entry)) (now (out .exit)) ⌝ }
 {
     match told {
-        Answer::Accepted(sizes) => {
-            let values = [
-                sizes.n as u64,
-                sizes.m as u64,
-                sizes.t as u64,
-                sizes.s as u64,
-            ];
-            fill(&values, out);
-            0
-        }
+        Answer::Accepted(sizes) => hand_sizes(sizes, out),
         Answer::Given(x) => {
             let values = [x];
             fill(&values, out);

@@ -1,14 +1,15 @@
 -- Values copied one by one to the front of a lent array.
 -- Assumes nothing.
 use mathlib.Core.Path.{_≡_, refl, sym, ap, ap₂, _∙_}
-use mathlib.Core.List.{List, _++_}
+use mathlib.Core.List.{List, [], _∷_, _++_}
 use mathlib.Core.Logic.{_⊎_, inl, inr}
 use Prim.Native.Nat.{ℕ, suc, _+_, _≤_, _<_, min}
 use native.Mathlib.Nat.{eq-or-lt-of-le}
 use native.Mathlib.Omega.{arith}
 use native.Mathlib.Numerals.{add-one}
 use lib.ListN.{length, take, drop, getD, set, length-set}
-use lib.Seq.{length-take-le, take-all, take-suc, drop-cons, append-snoc, set-at}
+use lib.Seq.{length-take-le, take-all, take-suc, drop-cons, append-snoc, set-at, take-nil}
+use Rattle.sets.specs.Lists.{over}
 use Rattle.oatmist.specs.Convention.{filled}
 
 -- the first k of the values stand in front of an array that was `old`
@@ -57,3 +58,12 @@ module _ (values old : List ℕ) (count : ℕ) (e : count ≡ min (length values
           let same : k ≡ length old = omega arith in
           ap₂ (λ (x y : List ℕ). x ++ y) (ap (λ (j : ℕ). take j values) same)
           (ap (λ (j : ℕ). drop j old) (same ∙ sym (length-take-le (length old) values (omega arith))))
+
+-- four values put one by one, each where there is room for it
+pub set-four : (a b c d : ℕ) (l : List ℕ) → set (set (set (set l 0 a) 1 b) 2 c) 3 d ≡ filled (a ∷ b ∷ c ∷ d ∷ []) l
+set-four a b c d [] = refl
+set-four a b c d (_ ∷ []) = refl
+set-four a b c d (_ ∷ _ ∷ []) = refl
+set-four a b c d (_ ∷ _ ∷ _ ∷ []) = refl
+set-four a b c d (_ ∷ _ ∷ _ ∷ _ ∷ rest) =
+    sym (ap (λ (l : List ℕ). over (a ∷ b ∷ c ∷ d ∷ l) (0 ∷ 0 ∷ 0 ∷ 0 ∷ rest)) (take-nil (length rest)))

@@ -15,13 +15,17 @@ handed-as : {a : Answer} (b : Answer) → a ≡ b → (r : ℕ) (old new : List 
 handed-as b e r old new h = subst (λ (x : Answer). CAnswer (outcomeOf x) r old new) (sym e) h
 
 refusal-word-requires : tie.Need-refusal-word-requires
-refusal-word-requires c κs = subst (λ (x : Answer). Packable (outcomeOf x)) (c .before .told3 .given .1) (c .before .before .before .before .pre)
+refusal-word-requires c κs =
+    let p = subst (λ (x : Answer). Packable (outcomeOf x)) (c .before .told3 .given .1) (c .before .before .before .before .pre) in
+    (p .1, p .2, p .3)
 
 returns : tie.Need-returns
-returns c = let f = c .before .before in handed-as _ (f .before .before .before .before .told .given .1) 0 _ _ (refl, f .fill .ensures)
+returns c =
+    let made = c .before .before in
+    handed-as _ (made .before .before .before .told .given .1) (made .hand-sizes .result) _ _ (made .hand-sizes .ensures)
 
 returns-2 : tie.Need-returns-2
-returns-2 c = let f = c .before .before in handed-as _ (f .before .before .before .before .told2 .given .1) 0 _ _ (refl, f .fill2 .ensures)
+returns-2 c = let f = c .before .before in handed-as _ (f .before .before .before .before .told2 .given .1) 0 _ _ (refl, f .fill .ensures)
 
 returns-3 : tie.Need-returns-3
 returns-3 c = handed-as _ (c .before .before .told3 .given .1) _ _ _ (c .refusal-word .ensures, refl)
@@ -30,7 +34,6 @@ pub hand-spec : {M : Type 1} → statement M
 hand-spec =
     tie.close
     (tie.spec
-    (λ c. search needs)
     (λ c. search needs)
     (λ c κs. search needs)
     (λ c. search needs)
