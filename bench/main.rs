@@ -181,18 +181,18 @@ fn permuted(draft: &mut Draft) {
 
 /// 16 components with 4 actions each, all of 32 states held, 2,048 transitions, 1,024 actions. An
 /// action has 1 component, 2 neighbours, or all 16.
-fn largest(owners: usize, cut: Cut) -> Draft {
-    let m = 64 / owners;
+fn largest(participants: usize, cut: Cut) -> Draft {
+    let m = 64 / participants;
     let mut draft = Draft::empty(m);
     for j in 0..16 {
         let mut alphabet = 0u64;
         for action in 0..m {
-            let first = match owners {
+            let first = match participants {
                 1 => action / 4,
                 2 => action / 2,
                 _ => 0,
             };
-            if (0..owners).any(|k| (first + k) % 16 == j) {
+            if (0..participants).any(|k| (first + k) % 16 == j) {
                 alphabet |= 1 << action;
             }
         }

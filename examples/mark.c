@@ -4,7 +4,7 @@
      cc -I include examples/mark.c target/staticlib/liboatmist.a -o mark-c
      ./mark-c sheets/pair.sheet sheets/pair.sheet
 
-   The exit status is 2, and nothing is marked, where a file cannot be read. */
+   The exit status is 2 where a file cannot be read, and then nothing is marked, or where the answer cannot be written. */
 #include "oatmist.h"
 #include <stdio.h>
 #include <stdlib.h>
@@ -13,18 +13,20 @@
 #define ROOM (OATMIST_LONGEST_SHEET + 1)
 static uint8_t first[ROOM], second[ROOM];
 
+/* Ends the program: what cannot be read or written, and why. */
+static void stop(const char *what) {
+    perror(what);
+    exit(2);
+}
+
 /* The file's first bytes, and how many there are. */
 static size_t load(const char *path, uint8_t *bytes) {
     FILE *file = fopen(path, "rb");
-    if (!file) {
-        perror(path);
-        exit(2);
-    }
+    if (!file)
+        stop(path);
     size_t length = fread(bytes, 1, ROOM, file);
-    if (ferror(file)) {
-        perror(path);
-        exit(2);
-    }
+    if (ferror(file))
+        stop(path);
     fclose(file);
     return length;
 }
@@ -44,5 +46,7 @@ int main(int count, char **paths) {
         printf("pair refused %d %d of sheet %d\n", OATMIST_REFUSAL(told), OATMIST_STEP(told), OATMIST_SHEET(told));
     else
         printf("%s\n", answer ? "same work" : "other work");
+    if (fflush(stdout) || ferror(stdout))
+        stop("standard output");
     return 0;
 }

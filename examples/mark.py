@@ -1,11 +1,10 @@
 #!/usr/bin/env python3
 """Marks a sheet from Python, and tells whether a second one does the same work.
 
-    tools/build
-    cc -shared -o liboatmist.so -Wl,--whole-archive target/staticlib/liboatmist.a -Wl,--no-whole-archive
-    python3 examples/mark.py ./liboatmist.so sheets/pair.sheet sheets/pair.sheet
+    tools/build shared
+    python3 examples/mark.py target/staticlib/liboatmist.so sheets/pair.sheet sheets/pair.sheet
 
-The exit status is 2, and nothing is marked, where a file cannot be read.
+The exit status is 2 where the library or a file cannot be read, and then nothing is marked, or where the answer cannot be written.
 """
 import ctypes
 import sys
@@ -48,26 +47,42 @@ class Desk:
         return self.ask("oatmist_same_work", first, second) == 1
 
 
+def stop(wrong):
+    """Ends the program with what is wrong."""
+    print(f"mark.py: {wrong}", file=sys.stderr)
+    sys.exit(2)
+
+
 def load(path):
     try:
         with open(path, "rb") as file:
             return file.read()
     except OSError as error:
-        print(f"mark.py: {error}", file=sys.stderr)
-        sys.exit(2)
+        stop(error)
+
+
+def answer(desk, first, second):
+    """The report of the first sheet, and a line on what the two are to each other."""
+    text = desk.report(first)
+    try:
+        return text + ("same work\n" if desk.same_work(first, second) else "other work\n")
+    except Refused as refused:
+        return text + f"pair refused {refused.number} {refused.step} of sheet {refused.sheet}\n"
 
 
 def main():
     if len(sys.argv) != 4:
-        print(f"usage: {sys.argv[0]} LIBRARY SHEET SHEET", file=sys.stderr)
-        sys.exit(2)
-    desk = Desk(sys.argv[1])
-    first, second = load(sys.argv[2]), load(sys.argv[3])
-    print(desk.report(first), end="")
+        stop(f"usage: {sys.argv[0]} LIBRARY SHEET SHEET")
     try:
-        print("same work" if desk.same_work(first, second) else "other work")
-    except Refused as refused:
-        print(f"pair refused {refused.number} {refused.step} of sheet {refused.sheet}")
+        desk = Desk(sys.argv[1])
+    except OSError as error:
+        stop(error)
+    text = answer(desk, load(sys.argv[2]), load(sys.argv[3])).encode()
+    try:
+        with open(1, "wb") as output:
+            output.write(text)
+    except OSError as error:
+        stop(f"standard output: {error}")
 
 
 if __name__ == "__main__":

@@ -4,7 +4,7 @@
 //!     rustc --edition 2021 examples/mark.rs -L target/staticlib -l static=oatmist -o mark-rs
 //!     ./mark-rs sheets/pair.sheet sheets/pair.sheet
 //!
-//! The exit status is 2, and nothing is marked, where a file cannot be read.
+//! The exit status is 2 where a file cannot be read, and then nothing is marked, or where the answer cannot be written.
 use std::io::Write;
 
 /// The calls as `include/oatmist.h` declares them: a slice is a pointer and a length.
@@ -74,18 +74,27 @@ fn load(path: &str) -> Vec<u8> {
     std::fs::read(path).unwrap_or_else(|error| stop(format!("{path}: {error}")))
 }
 
+/// The report of the first sheet, and a line on what the two are to each other.
+fn answer(first: &[u8], second: &[u8]) -> Vec<u8> {
+    let mut text = report(first).unwrap_or_default();
+    let line = match same_work(first, second) {
+        Ok(true) => "same work".to_string(),
+        Ok(false) => "other work".to_string(),
+        Err(Refusal { number, step, sheet }) => format!("pair refused {number} {step} of sheet {sheet}"),
+    };
+    text.extend_from_slice(line.as_bytes());
+    text.push(b'\n');
+    text
+}
+
 fn main() {
     let paths: Vec<String> = std::env::args().skip(1).collect();
     let [first, second] = &paths[..] else {
         stop("usage: mark-rs SHEET SHEET".to_string())
     };
     let (first, second) = (load(first), load(second));
-    if let Ok(text) = report(&first) {
-        std::io::stdout().write_all(&text).unwrap();
-    }
-    match same_work(&first, &second) {
-        Ok(true) => println!("same work"),
-        Ok(false) => println!("other work"),
-        Err(Refusal { number, step, sheet }) => println!("pair refused {number} {step} of sheet {sheet}"),
+    let mut output = std::io::stdout();
+    if let Err(error) = output.write_all(&answer(&first, &second)).and_then(|()| output.flush()) {
+        stop(format!("standard output: {error}"));
     }
 }

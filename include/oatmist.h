@@ -30,6 +30,10 @@
 extern "C" {
 #endif
 
+/* The version, as in the file VERSION: as a text, and as a number that grows, 10000 times the first part, 100 times the second, the third. */
+#define OATMIST_VERSION "1.0.0"
+#define OATMIST_VERSION_NUMBER 10000
+
 /* Limits of a sheet, in bytes; other lengths are refused. A restated sheet is never longer than its sheet. */
 #define OATMIST_SHORTEST_SHEET 26
 #define OATMIST_LONGEST_SHEET 16650
@@ -48,8 +52,8 @@ extern "C" {
 #define OATMIST_SHEET(told) ((int)(((told) >> 8) & 255))
 #define OATMIST_STEP(told) ((int)((told) >> 16))
 
-/* The refusals. A call gives the lowest number that applies; among 10 to 12 the earliest faulty step comes first. Only 10 to 12 have a
-   step index other than 0. Of two sheets all refusals of the first come before those of the second, then 14. */
+/* The refusals; docs/RULES.md has each as R1 to R14. A call gives the lowest number that applies; among 10 to 12 the earliest faulty step
+   comes first. Only 10 to 12 have a step index other than 0. Of two sheets the first is judged first, then the second, then 14. */
 enum oatmist_refusal {
     OATMIST_REFUSAL_LENGTH = 1,        /* the sheet is too short or too long */
     OATMIST_REFUSAL_MARK = 2,          /* it does not end in hexadecimal 46 53 */
@@ -84,7 +88,7 @@ uint64_t oatmist_restate(const uint8_t *sheet, size_t sheet_length, uint8_t *out
 /* The concurrency figure. One value. */
 uint64_t oatmist_figure(const uint8_t *sheet, size_t sheet_length, uint64_t *answer, size_t answer_length);
 
-/* Whether no action is enabled in the end sets. One value: 1 for yes, 0 for no. */
+/* Whether the sheet is stuck: after the last step no action is enabled. One value: 1 for yes, 0 for no. */
 uint64_t oatmist_stuck(const uint8_t *sheet, size_t sheet_length, uint64_t *answer, size_t answer_length);
 
 /* The text that the program prints, written to the front of `out`; the bytes behind it keep their values. One value: its length. A
@@ -106,8 +110,16 @@ struct oatmist_part {
 };
 
 /* The leaner answer: `*part` becomes the step section of the sheet that `oatmist_winner` tells, in the caller's own bytes. For a refused
-   pair its length becomes 0, and its pointer is of no use. What `*part` was before does not matter. */
+   pair its length becomes 0, and its pointer is of no use. `*part` must hold a part before the call, be it an empty one. */
 void oatmist_leaner(const uint8_t *first, size_t first_length, const uint8_t *second, size_t second_length, struct oatmist_part *part);
+
+/* The same, handed back by value: nothing need be prepared. */
+static inline struct oatmist_part oatmist_leaner_part(const uint8_t *first, size_t first_length, const uint8_t *second,
+                                                      size_t second_length) {
+    struct oatmist_part part = {NULL, 0};
+    oatmist_leaner(first, first_length, second, second_length, &part);
+    return part;
+}
 
 #ifdef __cplusplus
 }

@@ -9,11 +9,10 @@ import subprocess
 KEPT = 0xEEEEEEEEEEEEEEEE  # what stands in the lent array before a call
 
 
-def build(shared):
-    """The static library, made by tools/build, as a shared object of this path."""
-    subprocess.run(["tools/build"], check=True)
-    archive = "target/staticlib/liboatmist.a"
-    subprocess.run(["cc", "-shared", "-o", shared, "-Wl,--whole-archive", archive, "-Wl,--no-whole-archive"], check=True)
+def build():
+    """The path of the shared library, which tools/build makes."""
+    subprocess.run(["tools/build", "shared"], check=True)
+    return "target/staticlib/liboatmist.so"
 
 
 class Part(ctypes.Structure):
@@ -38,11 +37,10 @@ def place(part, sheets):
 
 
 class Desk:
-    """The calls, by the shared object that `build` makes."""
+    """The calls, by the shared library that `build` makes."""
 
-    def __init__(self, shared):
-        build(shared)
-        self.library = ctypes.CDLL(os.path.abspath(shared))
+    def __init__(self):
+        self.library = ctypes.CDLL(os.path.abspath(build()))
 
     def ask(self, call, *slices):
         """Makes a call with these arrays and lengths, and gives its answer in words."""

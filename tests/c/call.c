@@ -187,13 +187,15 @@ static void turned_down(void) {
     refused("not enabled", pair(bytes, 2, again), refusal(OATMIST_REFUSAL_NOT_ENABLED, 0, 1), "refused 12 1\n");
 }
 
-/* The leaner answer: the part that is due, or an empty one for a refused pair; what it was before does not matter. */
+/* The leaner answer: the part that is due, or an empty one for a refused pair, whatever part stood there before. */
 static void hands_back(const char *what, struct sheet one, struct sheet two, const uint8_t *bytes, size_t length) {
     struct oatmist_part part = {small, sizeof small}, null = {NULL, 0};
+    const struct oatmist_part back = oatmist_leaner_part(one.bytes, one.length, two.bytes, two.length);
     oatmist_leaner(one.bytes, one.length, two.bytes, two.length, &part);
     expect(part.length == length && (bytes == NULL || part.bytes == bytes), "leaner", what);
     oatmist_leaner(one.bytes, one.length, two.bytes, two.length, &null);
     expect(null.length == length && (bytes == NULL || null.bytes == bytes), "leaner of a null part", what);
+    expect(back.length == length && (bytes == NULL || back.bytes == bytes), "leaner by value", what);
 }
 
 /* Two sheets: whether they do the same work, and which is leaner. */

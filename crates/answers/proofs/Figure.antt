@@ -1,4 +1,4 @@
--- The figure is 10 times the actions over the restated steps, to the nearest whole number, halves up; 0 without steps.
+-- A4: the figure is 10 times the actions over the restated steps, rounded, a half upwards; 0 without steps.
 -- Assumes nothing.
 use mathlib.Core.Path.{_≡_}
 use mathlib.Core.List.{List}

@@ -17,7 +17,7 @@ use Rattle.answers.specs.Restated.{restatedSteps}
 use Rattle.answers.specs.Outcomes.{given, refused}
 use Rattle.answers.specs.Leaner.{winner, stepSection, leaner}
 use Rattle.answers.proofs.Restated.{accepted-limits}
-use Rattle.answers.proofs.TwoSheets.{pair-given}
+use Rattle.answers.proofs.TwoSheets.{two-given}
 
 -- the second sheet wins exactly when the test holds
 abbrev won : Bool → ℕ
@@ -38,7 +38,7 @@ module _ (b c : List ℕ) where
   winner-by : (y : ℕ) {P : Type 0} → (won fewer ≡ y) ↔ P → (winner b c ≡ given y) ↔ (Accepted b × Accepted c × SameTables b c × P)
   unfolding winner
   winner-by y h =
-      let pair = pair-given b c (won fewer) y in
+      let pair = two-given b c (won fewer) y in
       (λ e. let r = pair .0 e in (r .0, r .1, r .2, h .0 (r .3)), λ r. pair .1 (r .0, r .1, r .2, h .1 (r .3)))
 
   pub winner-first : (winner b c ≡ given 0) ↔ (Accepted b × Accepted c × SameTables b c × (length (restatedSteps b) ≤ length (restatedSteps c)))

@@ -12,24 +12,24 @@ use Rattle.sets.specs.Lists.{over}
 use Rattle.sets.proofs.Bools.{ltb-true, ltb-false}
 use Rattle.sheet.specs.Verdict.{Verdict, verdict, Accepted}
 use Rattle.answers.specs.Outcomes.{given, refused, values, single, after}
-use Rattle.answers.specs.LentOutput.{unlessShort, fitting}
+use Rattle.answers.specs.LentOutput.{unlessShort, lengthOr13}
 use Rattle.answers.specs.Restated.{restated}
 use Rattle.answers.specs.Restating.{restating, outputAfter}
 
 -- ---- any text
 
 module _ (text : List ℕ) where
-  pub fitting-short : (size : ℕ) → size < length text → fitting text size ≡ refused 13 0 0
-  unfolding fitting
-  fitting-short size l = rw (ltb-true size (length text) .1 l)
-
-  pub fitting-long : (size : ℕ) → length text ≤ size → fitting text size ≡ given (length text)
-  unfolding fitting
+  pub fitting-long : (size : ℕ) → length text ≤ size → lengthOr13 text size ≡ given (length text)
+  unfolding lengthOr13
   fitting-long size l = rw (ltb-false size (length text) .1 l)
 
+  pub fitting-short : (size : ℕ) → size < length text → lengthOr13 text size ≡ refused 13 0 0
+  unfolding lengthOr13
+  fitting-short size l = rw (ltb-true size (length text) .1 l)
+
   -- what is given is the length of the text
-  pub fitting-length : (size k : ℕ) → fitting text size ≡ given k → length text ≡ k
-  unfolding fitting
+  pub fitting-length : (size k : ℕ) → lengthOr13 text size ≡ given k → length text ≡ k
+  unfolding lengthOr13
   fitting-length size k e = go (ltb size (length text)) e
     where
       go : (s : Bool) → unlessShort s (length text) ≡ given k → length text ≡ k
@@ -37,8 +37,8 @@ module _ (text : List ℕ) where
       go false h = cc
 
   -- what was told as written lies within the output
-  pub fitting-within : (size k : ℕ) → given (single k) ≡ values single (fitting text size) → k ≤ size
-  unfolding fitting
+  pub fitting-within : (size k : ℕ) → given (single k) ≡ values single (lengthOr13 text size) → k ≤ size
+  unfolding lengthOr13
   fitting-within size k e = go (ltb size (length text)) refl e
     where
       go : (s : Bool) → ltb size (length text) ≡ s → given (single k) ≡ values single (unlessShort s (length text)) → k ≤ size
@@ -58,7 +58,7 @@ pub refused-first : (b : List ℕ) (size k i : ℕ) → verdict b ≡ Verdict.re
 unfolding restating
 refused-first b size k i e = rw e
 
-pub accepted-fits : (b : List ℕ) (size : ℕ) → Accepted b → restating b size ≡ fitting (restated b) size
+pub accepted-fits : (b : List ℕ) (size : ℕ) → Accepted b → restating b size ≡ lengthOr13 (restated b) size
 unfolding restating
 accepted-fits b size acc = rw acc
 
@@ -73,11 +73,11 @@ unfolding outputAfter
 refused-kept b out k i s e = rw e
 
 -- what is given is the length of the restated sheet
-given-length : (b : List ℕ) (size k : ℕ) → restating b size ≡ given k → length (restated b) ≡ k
+pub given-length : (b : List ℕ) (size k : ℕ) → restating b size ≡ given k → length (restated b) ≡ k
 unfolding restating
 given-length b size k e = go (verdict b) e
   where
-    go : (v : Verdict) → after v (fitting (restated b) size) ≡ given k → length (restated b) ≡ k
+    go : (v : Verdict) → after v (lengthOr13 (restated b) size) ≡ given k → length (restated b) ≡ k
     go (Verdict.refused r i) h = let z : _≡_ {A = ℕ} 0 1 = cc in absurd (omega arith)
     go Verdict.accepted h = fitting-length (restated b) size k h
 

@@ -4,10 +4,15 @@ pub mod Passing
 pub mod Told
 pub mod LentOutput
 pub mod Relations
+pub mod RefusalsDue
 pub mod TwoSheets
 pub mod Leaner
 pub mod Figure
 pub mod Stuck
+pub mod Decimals
+pub mod Worked
+pub mod OutcomeLaws
 pub mod Reports
 pub mod Starred
-pub mod Demands
+pub mod FirstRefusal
+pub mod Laws

@@ -23,13 +23,13 @@ abbrev pub NotRefused : Answer → Type 0
 NotRefused a = OneOf (0 ∷ 1 ∷ []) (Declared.tagOf enum.the-type a)
 
 -- the refusal that an answer is
-pub record Stopped (a : Answer) (v : Verdict) : Type 0 where
+pub record IsRefusal (a : Answer) (v : Verdict) : Type 0 where
   pub number : ℕ
   pub index : ℕ
   pub verdict-told : v ≡ refused number index
   pub answer-told : a ≡ Refused number index 0
 
-pub stopped-by : (a : Answer) → NotAccepted a → (v : Verdict) (n m t s : ℕ) → outcomeOf a ≡ after v (given (n ∷ m ∷ t ∷ s ∷ [])) → Stopped a v
+pub stopped-by : (a : Answer) → NotAccepted a → (v : Verdict) (n m t s : ℕ) → outcomeOf a ≡ after v (given (n ∷ m ∷ t ∷ s ∷ [])) → IsRefusal a v
 stopped-by (Accepted z) h v n m t s e = elim h [ inl q ↦ absurd (omega arith) | inr q ↦ absurd (omega arith) ]
 stopped-by (Given y) h (refused k i) n m t s e = let z : _≡_ {A = ℕ} 0 1 = cc in absurd (omega arith)
 stopped-by (Given y) h accepted n m t s e = let z : _≡_ {A = ℕ} 0 1 = cc in absurd (omega arith)
@@ -37,7 +37,7 @@ stopped-by (Refused k i w) h (refused l j) n m t s e = record { number = l; inde
 stopped-by (Refused k i w) h accepted n m t s e = let z : _≡_ {A = ℕ} 0 1 = cc in absurd (omega arith)
 
 -- passed on as it is, whatever the call would give
-pub stopped-told : {A : Type 0} {a : Answer} {v : Verdict} → Stopped a v → (f : A → List ℕ) (x : Outcome A) → outcomeOf a ≡ values f (after v x)
+pub stopped-told : {A : Type 0} {a : Answer} {v : Verdict} → IsRefusal a v → (f : A → List ℕ) (x : Outcome A) → outcomeOf a ≡ values f (after v x)
 stopped-told r f x = rw (r .verdict-told, r .answer-told) refl
 
 pub passed-on : (a : Answer) → NotAccepted a → (v : Verdict) (n m t s : ℕ) → outcomeOf a ≡ after v (given (n ∷ m ∷ t ∷ s ∷ []))

@@ -1,6 +1,6 @@
 -- Related sheets have the same tables, and the restated sheet is related to its sheet and to no other normal form.
 -- Assumes nothing.
-use mathlib.Core.Path.{_≡_, refl, sym, ap, ap₂, _∙_}
+use mathlib.Core.Path.{_≡_, sym, ap, ap₂, _∙_}
 use mathlib.Core.Option.{none}
 use mathlib.Core.List.{List, map, List·Memᴰ}
 use Prim.Native.Nat.{ℕ, _^_, _<_, _≤_}
@@ -15,7 +15,7 @@ use Rattle.systems.specs.Independence.{dependent}
 use Rattle.systems.specs.Running.{start}
 use Rattle.systems.specs.Checking.{flat, firstFault}
 use Rattle.systems.proofs.Dependence.{dependent-laws}
-use Rattle.systems.proofs.Faults.{Formed, fault-none}
+use Rattle.systems.proofs.Faults.{WellFormedSteps, fault-none}
 use Rattle.sheet.specs.Numbers.{AreBytes}
 use Rattle.sheet.specs.Layout.{componentCount, actionCount, front, tablesOf, tables, stepCount, steps}
 use Rattle.sheet.specs.Verdict.{Accepted}
@@ -31,12 +31,6 @@ unfolding tables
 same-tables {b} {c} s =
     ap (λ (f : List ℕ). tablesOf f (componentCount b) (actionCount b)) (s .same-front)
     ∙ ap₂ (λ (n m : ℕ). tablesOf (front c) n m) (s .same-components) (s .same-actions)
-
-pub tables-self : (b : List ℕ) → SameTables b b
-tables-self b = record { same-front = refl; same-steps-at = refl; same-components = refl; same-actions = refl }
-
-pub related-self : (b : List ℕ) → Accepted b → RelatedSheets b b
-related-self b acc = record { first-accepted = acc; second-accepted = acc; same-tables = tables-self b; swaps = Related.none }
 
 sheet-cong : {f g xs ys : List ℕ} {n k m l : ℕ} → f ≡ g → n ≡ k → m ≡ l → xs ≡ ys → sheetOf f n m xs ≡ sheetOf g k l ys
 sheet-cong p q r s = λ i. sheetOf (p i) (q i) (r i) (s i)
@@ -111,7 +105,7 @@ restated-relation b acc =
     }
 
 -- the formed steps of a related sheet, over the first sheet's tables
-related-formed : {b c : List ℕ} → RelatedSheets b c → Formed (tables b) (steps c)
+related-formed : {b c : List ℕ} → RelatedSheets b c → WellFormedSteps (tables b) (steps c)
 related-formed {b} {c} r =
     rw (same-tables (r .same-tables)) (fault-none (tables c) (start (tables c)) 0 (steps c) .0 (accepted-fine c (r .second-accepted)) .0)
 

@@ -103,6 +103,13 @@ module _ (b : List ℕ) (acc : Accepted b) where
       let e = steps-length b in
       omega arith
 
+  pub restated-shorter : length (restated b) ≤ length b
+  restated-shorter =
+      let total = restated-length in
+      let whole = sections-length b limits in
+      let few = no-longer in
+      omega arith
+
   pub restated-limits : InLimits (restated b)
   restated-limits =
       let l = limits in

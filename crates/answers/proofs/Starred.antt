@@ -3,10 +3,10 @@
 use mathlib.Core.Path.{_≡_, refl}
 use mathlib.Core.Bool.{true, _&&_}
 use mathlib.Core.List.{List·Memᴰ}
-use Rattle.sets.specs.Lists.{every, upward, below}
+use Rattle.sets.specs.Lists.{allOf, upward, below}
 use Rattle.sets.specs.Bits.{members, membersFrom}
 use Rattle.sets.proofs.Bools.{and-true}
-use Rattle.sets.proofs.Lists.{every-elim}
+use Rattle.sets.proofs.Lists.{allOf-elim}
 use Rattle.systems.specs.Independence.{shares, dependent}
 use Rattle.systems.specs.Running.{rounds, closure, start, enabled, fire}
 use Rattle.systems.specs.Checking.{notActions, notApart, notEnabled, stepFault}
@@ -24,16 +24,16 @@ use Rattle.answers.specs.Report.{summaryLine, stepLines, endLines, repor
 use Rattle.answers.specs.Pair.{pairTables, pairSheet}
 use Rattle.answers.specs.Starred.{Case, starred, holds, workedSheet, printed}
 
-all-come-out : (every holds starred && sameBytes (report workedSheet) printed) ≡ true
+all-come-out : (allOf holds starred && sameBytes (report workedSheet) printed) ≡ true
 unfolding upward below members membersFrom shares dependent rounds closure start enabled fire notActions notApart notEnabled stepFault field recordsAt transitionsAt stepsAt componentCount actionCount closing front statesOf fillerOf initialOf alphabetOf transitionBytes tablesOf tables stepCount steps lengthWrong markWrong countsWrong offsetsWrong recordWrong recordsWrong actionUnused transitionWrong transitionsWrong orderWrong tooManyActions stepsVerdict verdict trailer sheetOf endSet restatedSteps restated pairTables pairSheet figure stuck summaryLine stepLines endLines report
 all-come-out = refl
 
-both : (every holds starred ≡ true) × (sameBytes (report workedSheet) printed ≡ true)
-both = and-true (every holds starred) (sameBytes (report workedSheet) printed) .0 all-come-out
+both : (allOf holds starred ≡ true) × (sameBytes (report workedSheet) printed ≡ true)
+both = and-true (allOf holds starred) (sameBytes (report workedSheet) printed) .0 all-come-out
 
 -- each case of the table comes out as the table says
 pub starred-hold : (c : Case) → List·Memᴰ c starred → holds c ≡ true
-starred-hold c m = every-elim holds starred (both .0) c m
+starred-hold c m = allOf-elim holds starred (both .0) c m
 
 -- the text for the worked example
 pub pair-report : report workedSheet ≡ printed

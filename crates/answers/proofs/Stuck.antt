@@ -1,13 +1,13 @@
--- Stuck says exactly that no action is enabled in the end sets.
+-- A5: stuck says exactly that the end sets enable no action.
 -- Assumes nothing.
 use mathlib.Core.Path.{_≡_}
 use mathlib.Core.Logic.{_↔_}
 use mathlib.Core.Bool.{true, false}
 use mathlib.Core.List.{List}
 use Prim.Native.Nat.{ℕ, _<_}
-use Rattle.sets.specs.Lists.{some, below}
+use Rattle.sets.specs.Lists.{anyOf, below}
 use Rattle.sets.proofs.Bools.{not-true}
-use Rattle.sets.proofs.Lists.{some-false, none-false, mem-below}
+use Rattle.sets.proofs.Lists.{anyOf-false, none-false, mem-below}
 use Rattle.systems.specs.Running.{enabled}
 use Rattle.sheet.specs.Layout.{actionCount, tables}
 use Rattle.answers.specs.EndSets.{endSet}
@@ -18,6 +18,6 @@ unfolding stuck
 stuck-exact b =
     let test = enabled (tables b) (endSet b) in
     let below-m = below (actionCount b) in (
-      λ e a h. some-false test below-m (not-true (some test below-m) .0 e) (mem-below (actionCount b) a .1 h),
-      λ h. not-true (some test below-m) .1 (none-false test below-m (λ a m. h a (mem-below (actionCount b) a .0 m))),
+      λ e a h. anyOf-false test below-m (not-true (anyOf test below-m) .0 e) (mem-below (actionCount b) a .1 h),
+      λ h. not-true (anyOf test below-m) .1 (none-false test below-m (λ a m. h a (mem-below (actionCount b) a .0 m))),
     )

@@ -4,8 +4,10 @@ use mathlib.Core.Path.{_≡_, refl, sym, ap, _∙_}
 use mathlib.Core.Logic.{_↔_}
 use mathlib.Core.Bool.{Bool, true, false}
 use mathlib.Core.List.{List}
+use mathlib.Core.Option.{Option, none, some}
 use Prim.Native.Nat.{ℕ}
 use native.Mathlib.Omega.{arith}
+use Rattle.traces.specs.Offences.{offending}
 use Rattle.answers.specs.declared.Answer.{Answer}
 use Rattle.answers.specs.Outcomes.{Outcome, given, refused, values, single, bit, outcomeOf}
 
@@ -57,3 +59,13 @@ bit-only false false e = refl
 pub bit-exactly : (r : Answer) (o : Outcome Bool) → outcomeOf r ≡ values (λ t. single (bit t)) o → (x : Bool)
     → (r ≡ Answer.Given (bit x)) ↔ (o ≡ given x)
 bit-exactly r o t x = given-exactly bit bit-only r o t x
+
+offending-only : (x y : Option ℕ) → offending x ≡ offending y → x ≡ y
+offending-only none none e = refl
+offending-only none (some j) e = absurd (omega arith)
+offending-only (some i) none e = absurd (omega arith)
+offending-only (some i) (some j) e = let same : i ≡ j = omega arith in ap some same
+
+pub offence-exactly : (r : Answer) (o : Outcome (Option ℕ)) → outcomeOf r ≡ values (λ x. single (offending x)) o → (x : Option ℕ)
+    → (r ≡ Answer.Given (offending x)) ↔ (o ≡ given x)
+offence-exactly r o t x = given-exactly offending offending-only r o t x

@@ -10,13 +10,15 @@ use lib.Dec.{eqb}
 use Rattle.sets.proofs.Bools.{clash, true-or-false, or-false, not-false, eqb-true, false-iff}
 use Rattle.sheet.specs.Layout.{stepsAt, componentCount, actionCount, front}
 use Rattle.sheet.specs.Refusals.{sameBytes}
-use Rattle.sheet.specs.Verdict.{Verdict, verdict, Accepted}
+use Rattle.sheet.specs.Verdict.{Accepted}
 use Rattle.sheet.proofs.Limits.{same-bytes}
 use Rattle.answers.specs.Related.{SameTables, RelatedSheets}
 use Rattle.answers.specs.Restated.{restatedSteps}
-use Rattle.answers.specs.Outcomes.{given, refused, onSheet}
-use Rattle.answers.specs.TwoSheets.{tablesDiffer, unlessDiffer, ofPair}
+use Rattle.answers.specs.Outcomes.{given, refused}
+use Rattle.answers.specs.TwoSheets.{tablesDiffer, unlessDiffer, ofTwo}
 use Rattle.answers.specs.SameWork.{sameWork}
+use Rattle.answers.specs.FirstRefusal.{TablesDiffer, TwoSheetRefusal, RefusesBy}
+use Rattle.answers.proofs.RefusalsDue.{after-sheet, on-given}
 use Rattle.answers.proofs.Relations.{related-steps, steps-related}
 
 -- 14 does not hold exactly when the two sheets are over the same tables
@@ -57,51 +59,60 @@ differ-false b c = (
 
 -- ---- the refusals of a pair, in the printed order
 
-pub pair-first : {A : Type 0} (b c : List ℕ) (x : A) (k i : ℕ) → verdict b ≡ Verdict.refused k i → ofPair b c x ≡ refused k i 0
-unfolding ofPair
-pair-first b c x k i e = rw e
+differ-due : {A : Type 0} (b c : List ℕ) (x : A) → RefusesBy (TablesDiffer b c) (unlessDiffer (tablesDiffer b c) x)
+differ-due b c x k i s = go (tablesDiffer b c) refl
+  where
+    go : (d : Bool) → tablesDiffer b c ≡ d → (unlessDiffer d x ≡ refused k i s) ↔ TablesDiffer b c k i s
+    go true q = (
+      λ e. (λ t. clash q (differ-false b c .1 t), (cc, cc, cc)),
+      λ p. let n = p .1 .0 in let j = p .1 .1 in let w = p .1 .2 in cc,
+    )
+    go false q = (
+      λ e. let z : _≡_ {A = ℕ} 0 1 = cc in absurd (omega arith),
+      λ p. absurd (p .0 (differ-false b c .0 q)),
+    )
 
-pub pair-second : {A : Type 0} (b c : List ℕ) (x : A) (k i : ℕ) → Accepted b → verdict c ≡ Verdict.refused k i → ofPair b c x ≡ refused k i 1
-unfolding ofPair
-pair-second b c x k i acc e = rw (acc, e)
+pub two-refuses : {A : Type 0} (b c : List ℕ) (x : A) → RefusesBy (TwoSheetRefusal b c) (ofTwo b c x)
+unfolding ofTwo
+two-refuses b c x = after-sheet 0 b _ _ (after-sheet 1 c _ _ (differ-due b c x))
 
-pub pair-apart : {A : Type 0} (b c : List ℕ) (x : A) → Accepted b → Accepted c → ¬ SameTables b c → ofPair b c x ≡ refused 14 0 0
-unfolding ofPair
-pair-apart b c x acc acc′ n = rw (acc, acc′, differ)
+pub two-apart : {A : Type 0} (b c : List ℕ) (x : A) → Accepted b → Accepted c → ¬ SameTables b c → ofTwo b c x ≡ refused 14 0 0
+unfolding ofTwo
+two-apart b c x acc acc′ n = rw (acc, acc′, differ)
   where
     differ : tablesDiffer b c ≡ true
     differ = elim (true-or-false (tablesDiffer b c)) [ inl t ↦ t | inr f ↦ absurd (n (differ-false b c .0 f)) ]
 
 -- a pair gets x as its answer exactly when both sheets are accepted over the same tables
-pub pair-given : {A : Type 0} (b c : List ℕ) (x y : A) → (ofPair b c x ≡ given y) ↔ (Accepted b × Accepted c × SameTables b c × (x ≡ y))
-unfolding ofPair
-pair-given {A} b c x y = (
-  λ e. let r = taken (verdict b) (verdict c) (tablesDiffer b c) e in (r .0, r .1, differ-false b c .0 (r .2), r .3),
+pub two-given : {A : Type 0} (b c : List ℕ) (x y : A) → (ofTwo b c x ≡ given y) ↔ (Accepted b × Accepted c × SameTables b c × (x ≡ y))
+unfolding ofTwo
+two-given {A} b c x y = (
+  λ e. let one = on-given _ _ _ y e in
+      let two = on-given _ _ _ y (one .1) in
+      let last = passed (tablesDiffer b c) (two .1) in
+      (one .0, two .0, differ-false b c .0 (last .0), last .1),
   λ h. rw (h .0, h .1, differ-false b c .1 (h .2)) (ap given (h .3)),
 )
   where
-    taken : (v w : Verdict) (d : Bool) → onSheet 0 v (onSheet 1 w (unlessDiffer d x)) ≡ given y
-        → (v ≡ Verdict.accepted) × (w ≡ Verdict.accepted) × (d ≡ false) × (x ≡ y)
-    taken (Verdict.refused k i) w d e = let z : _≡_ {A = ℕ} 0 1 = cc in absurd (omega arith)
-    taken Verdict.accepted (Verdict.refused k i) d e = let z : _≡_ {A = ℕ} 0 1 = cc in absurd (omega arith)
-    taken Verdict.accepted Verdict.accepted true e = let z : _≡_ {A = ℕ} 0 1 = cc in absurd (omega arith)
-    taken Verdict.accepted Verdict.accepted false e = (refl, refl, refl, cc)
+    passed : (d : Bool) → unlessDiffer d x ≡ given y → (d ≡ false) × (x ≡ y)
+    passed true e = let z : _≡_ {A = ℕ} 0 1 = cc in absurd (omega arith)
+    passed false e = (refl, cc)
 
 pub work-same : (b c : List ℕ) → (sameWork b c ≡ given true) ↔ RelatedSheets b c
 unfolding sameWork
 work-same b c = (
-  λ e. let h = pair-given b c (sameBytes (restatedSteps b) (restatedSteps c)) true .0 e in
+  λ e. let h = two-given b c (sameBytes (restatedSteps b) (restatedSteps c)) true .0 e in
       steps-related b c (h .0) (h .1) (h .2) (same-bytes (restatedSteps b) (restatedSteps c) .0 (h .3)),
-  λ r. pair-given b c (sameBytes (restatedSteps b) (restatedSteps c)) true .1
+  λ r. two-given b c (sameBytes (restatedSteps b) (restatedSteps c)) true .1
       (r .first-accepted, r .second-accepted, r .same-tables, same-bytes (restatedSteps b) (restatedSteps c) .1 (related-steps r)),
 )
 
 pub work-other : (b c : List ℕ) → (sameWork b c ≡ given false) ↔ (Accepted b × Accepted c × SameTables b c × (¬ RelatedSheets b c))
 unfolding sameWork
 work-other b c = (
-  λ e. let h = pair-given b c (sameBytes (restatedSteps b) (restatedSteps c)) false .0 e in
+  λ e. let h = two-given b c (sameBytes (restatedSteps b) (restatedSteps c)) false .0 e in
       (h .0, h .1, h .2, λ r. clash (same-bytes (restatedSteps b) (restatedSteps c) .1 (related-steps r)) (h .3)),
-  λ h. pair-given b c (sameBytes (restatedSteps b) (restatedSteps c)) false .1 (
+  λ h. two-given b c (sameBytes (restatedSteps b) (restatedSteps c)) false .1 (
     h .0,
     h .1,
     h .2,

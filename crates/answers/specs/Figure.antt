@@ -1,4 +1,4 @@
--- The concurrency figure: ten times the actions for each restated step, rounded to the nearest whole number, a half upwards; 0 for a sheet
+-- A4: the concurrency figure: ten times the actions for each restated step, rounded to a whole number, a half upwards; 0 for a sheet
 -- without steps (document 01, around the restated sheet).
 -- Assumes nothing.
 use mathlib.Core.List.{List}

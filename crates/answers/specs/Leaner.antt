@@ -1,23 +1,24 @@
 -- The leaner of two accepted sheets over the same tables, that with fewer restated steps, the first in a tie; and its step section
--- (document 01, around the restated sheet).
+-- (A2, A3; document 01, around the restated sheet).
 -- Assumes nothing.
 use mathlib.Core.Bool.{cond}
 use mathlib.Core.List.{List, []}
 use Prim.Native.Nat.{ℕ, zero, suc, _*_}
 use lib.Dec.{ltb}
 use lib.ListN.{length, take, drop}
+use Rattle.sheet.specs.Bounds.{stepSize}
 use Rattle.sheet.specs.Layout.{stepsAt, stepCount}
 use Rattle.answers.specs.Restated.{restatedSteps}
-use Rattle.answers.specs.TwoSheets.{ofPair}
+use Rattle.answers.specs.TwoSheets.{ofTwo}
 use Rattle.answers.specs.Outcomes.{Outcome, given, refused}
 
--- which sheet is leaner, 0 or 1, or the refusal of the pair
+-- A3: which sheet is leaner, 0 or 1, or the refusal of the pair
 unfoldable pub winner : List ℕ → List ℕ → Outcome ℕ
-winner b c = ofPair b c (cond (ltb (length (restatedSteps c)) (length (restatedSteps b))) 1 0)
+winner b c = ofTwo b c (cond (ltb (length (restatedSteps c)) (length (restatedSteps b))) 1 0)
 
--- the step section of a sheet, from its own bytes
+-- A2: the step section of a sheet, from its own bytes
 unfoldable pub stepSection : List ℕ → List ℕ
-stepSection b = take (8 * stepCount b) (drop (stepsAt b) b)
+stepSection b = take (stepSize * stepCount b) (drop (stepsAt b) b)
 
 -- the section of the sheet that won; nothing for a refused pair
 abbrev pub sectionBy : Outcome ℕ → List ℕ → List ℕ → List ℕ

@@ -11,6 +11,12 @@ pub mod Leaner
 pub mod Figure
 pub mod Stuck
 pub mod Report
+pub mod Decimals
+pub mod Quoted
+pub mod Worked
+pub mod OutcomeLaws
 pub mod Pair
 pub mod Starred
-pub mod Demands
+pub mod FirstRefusal
+pub mod SheetExecution
+pub mod Laws

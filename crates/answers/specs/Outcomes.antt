@@ -1,4 +1,4 @@
--- The outcome of a call: what was asked for, or one numbered refusal (document 01, "Refusal list" and "Conditions of acceptance").
+-- The outcome of a call: what was asked for, or one numbered refusal (O1, O4; document 01, refusal list, conditions of acceptance).
 -- Assumes nothing.
 use mathlib.Core.Bool.{Bool, true, false}
 use mathlib.Core.List.{List, [], _∷_}
@@ -8,7 +8,7 @@ use Rattle.sheet.specs.Verdict.{Verdict}
 use Rattle.answers.specs.declared.Answer.{Answer}
 use Rattle.answers.specs.declared.Answer.the-variants.{Accepted, Given, Refused}
 
--- a refusal tells its number, its step index, and which of two sheets is refused, 0 where there is one sheet
+-- O4, O7: a refusal tells its number, its step index, and which of two sheets is refused, 0 where there is one sheet
 pub data Outcome (A : Type 0) : Type 0 where
   given : A → Outcome A
   refused : ℕ → ℕ → ℕ → Outcome A
@@ -27,13 +27,13 @@ abbrev pub bit : Bool → ℕ
 bit true = 1
 bit false = 0
 
--- for each case of an answer, document 01's number and values
+-- F10: for each case of an answer, its number and values
 abbrev pub outcomeOf : Answer → Outcome (List ℕ)
 outcomeOf (Accepted z) = given (z .n ∷ z .m ∷ z .t ∷ z .s ∷ [])
 outcomeOf (Given x) = given (x ∷ [])
 outcomeOf (Refused k i s) = refused k i s
 
--- the verdict on the sheet s of a call, and what comes after it where that sheet is accepted
+-- O7: the verdict on the sheet s of a call, and what comes after it where that sheet is accepted
 abbrev pub onSheet : {A : Type 0} → ℕ → Verdict → Outcome A → Outcome A
 onSheet s (Verdict.refused k i) later = refused k i s
 onSheet s Verdict.accepted later = later

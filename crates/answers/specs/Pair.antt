@@ -1,4 +1,4 @@
--- Pair, the system of document 01's "Sheets to try", as bytes.
+-- X1: Pair, the system of document 01's sheets to try, as bytes.
 -- Assumes nothing.
 use mathlib.Core.List.{List, [], _∷_, _++_}
 use Prim.Native.Nat.{ℕ}

@@ -1,4 +1,4 @@
--- The process check of an accepted sheet: yes, or the first step that offends against the process condition (document 01, the restated sheet).
+-- N7: the process check of an accepted sheet: yes, or the first step that offends against the process condition.
 -- Assumes nothing.
 use mathlib.Core.List.{List, map}
 use mathlib.Core.Option.{Option}

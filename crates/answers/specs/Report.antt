@@ -1,15 +1,15 @@
--- The whole text that the program prints for a sheet, byte for byte (document 01, around the restated sheet). A line is a word and numbers in
+-- The whole text that the program prints, byte for byte (P1 to P5; document 01, around the restated sheet). A line is a word and numbers in
 -- decimal, each behind one space, and ends in a line feed.
 -- Assumes nothing.
 use mathlib.Core.List.{List, [], _∷_, _++_, map}
 use Prim.Native.Nat.{ℕ, zero, suc, _+_, _/_, _%_}
 use lib.ListN.{length}
-use Rattle.sets.specs.Lists.{concat, below}
+use Rattle.sets.specs.Lists.{appendAll, below}
 use Rattle.sets.specs.Bits.{members}
 use Rattle.sheet.specs.Layout.{componentCount, stepCount}
 use Rattle.sheet.specs.Verdict.{Verdict, accepted, refused, verdict}
 use Rattle.answers.specs.Outcomes.{Outcome, bit}
-use Rattle.answers.specs.LentOutput.{fitting, outputBy}
+use Rattle.answers.specs.LentOutput.{lengthOr13, outputBy}
 use Rattle.answers.specs.EndSets.{endSet}
 use Rattle.answers.specs.Restated.{restatedSteps}
 use Rattle.answers.specs.Figure.{figure}
@@ -21,10 +21,10 @@ digitsBefore zero x text = text
 digitsBefore (suc k) zero text = text
 digitsBefore (suc k) (suc x) text = digitsBefore k (suc x / 10) ((48 + suc x % 10) ∷ text)
 
--- a number in decimal; a number below 2 ^ 64 has at most 20 digits
+-- a number in decimal; a number has at most as many digits as it counts, so none is left out
 abbrev pub decimal : ℕ → List ℕ
 decimal zero = 48 ∷ []
-decimal (suc x) = digitsBefore 20 (suc x) []
+decimal (suc x) = digitsBefore (suc x) (suc x) []
 
 -- the words accepted, refused, step and end
 abbrev pub acceptedWord : List ℕ
@@ -43,33 +43,41 @@ endWord = 101 ∷ 110 ∷ 100 ∷ []
 abbrev pub part : ℕ → List ℕ
 part x = 32 ∷ decimal x
 
--- a line: its word, its numbers, a line feed
+-- P1: a line: its word, its numbers, a line feed
 abbrev pub line : List ℕ → List ℕ → List ℕ
-line word xs = word ++ (concat (map part xs) ++ (10 ∷ []))
+line word xs = word ++ (appendAll (map part xs) ++ (10 ∷ []))
 
--- the first line of an accepted sheet, K C F D: its steps, its restated steps, the figure, and 1 for stuck or 0
+-- P3: the first line of an accepted sheet, K C F D: its steps, its restated steps, the figure, and 1 for stuck or 0
 unfoldable pub summaryLine : List ℕ → List ℕ
 summaryLine b = line acceptedWord (stepCount b ∷ length (restatedSteps b) ∷ figure b ∷ bit (stuck b) ∷ [])
 
--- a line for each restated step, with its actions, rising
-unfoldable pub stepLines : List ℕ → List ℕ
-stepLines b = concat (map (λ x. line stepWord (members x)) (restatedSteps b))
+-- a line for each of some steps, with its actions, rising
+abbrev pub stepTexts : List ℕ → List ℕ
+stepTexts xs = appendAll (map (λ x. line stepWord (members x)) xs)
 
--- a line for each component: its index and the states of its end set, rising
+-- a line for each of some components: its index and the states of the set that it holds, rising
+abbrev pub endTexts : (ℕ → ℕ) → List ℕ → List ℕ
+endTexts held js = appendAll (map (λ j. line endWord (j ∷ members (held j))) js)
+
+-- P4: the lines of the restated steps
+unfoldable pub stepLines : List ℕ → List ℕ
+stepLines b = stepTexts (restatedSteps b)
+
+-- P5: the lines of all components, with their end sets
 unfoldable pub endLines : List ℕ → List ℕ
-endLines b = concat (map (λ j. line endWord (j ∷ members (endSet b j))) (below (componentCount b)))
+endLines b = endTexts (endSet b) (below (componentCount b))
 
 abbrev pub reportBy : Verdict → List ℕ → List ℕ
 reportBy (refused k i) text = line refusedWord (k ∷ i ∷ [])
 reportBy accepted text = text
 
--- one line with number and step index for a refused sheet; the three kinds of lines for an accepted one
+-- P2: one line with number and step index for a refused sheet; the three kinds of lines for an accepted one
 unfoldable pub report : List ℕ → List ℕ
 report b = reportBy (verdict b) (summaryLine b ++ (stepLines b ++ endLines b))
 
 -- how many bytes are printed for the sheet b into an output of `size` bytes, or 13
 unfoldable pub reporting : List ℕ → ℕ → Outcome ℕ
-reporting b size = fitting (report b) size
+reporting b size = lengthOr13 (report b) size
 
 -- the output afterwards
 unfoldable pub reportOutput : List ℕ → List ℕ → List ℕ

@@ -1,4 +1,4 @@
--- Same work: whether two accepted sheets over the same tables have the same restated steps. That these are the related ones is a theorem,
+-- A1: whether two accepted sheets over the same tables have the same restated steps. That these are the related ones is a theorem,
 -- `same-exactly` (document 01, around the restated sheet).
 -- Assumes nothing.
 use mathlib.Core.Bool.{Bool}
@@ -7,7 +7,7 @@ use Prim.Native.Nat.{ℕ}
 use Rattle.sheet.specs.Refusals.{sameBytes}
 use Rattle.answers.specs.Restated.{restatedSteps}
 use Rattle.answers.specs.Outcomes.{Outcome}
-use Rattle.answers.specs.TwoSheets.{ofPair}
+use Rattle.answers.specs.TwoSheets.{ofTwo}
 
 unfoldable pub sameWork : List ℕ → List ℕ → Outcome Bool
-sameWork b c = ofPair b c (sameBytes (restatedSteps b) (restatedSteps c))
+sameWork b c = ofTwo b c (sameBytes (restatedSteps b) (restatedSteps c))

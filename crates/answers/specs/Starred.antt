@@ -1,4 +1,4 @@
--- The starred cases of document 01's "Sheets to try", in one table: the steps of a sheet over Pair, and what is to come of it;
+-- X2, C3: the starred cases of document 01's sheets to try, in one table: the steps of a sheet over Pair, and what is to come of it;
 -- and the worked example with what is printed for it.
 -- Sets are written as binary numerals, bit a for action a: {0} is 0b1, {1} is 0b10, {0,1} is 0b11, {2} is 0b100.
 -- Assumes nothing.
@@ -10,6 +10,7 @@ use Rattle.sheet.specs.Refusals.{sameBytes}
 use Rattle.sheet.specs.Verdict.{Verdict, accepted, refused, verdict}
 use Rattle.answers.specs.EndSets.{endSet}
 use Rattle.answers.specs.Restated.{restated}
+use Rattle.answers.specs.Quoted.{textOf}
 use Rattle.answers.specs.Pair.{pairSheet}
 
 -- restated as these steps, with the end sets of components 0 and 1; or refused, with number and step index
@@ -26,21 +27,21 @@ case xs o = record { given = xs; due = o }
 
 abbrev pub starred : List Case
 starred =
-    -- "no steps: restated without steps, ends {0} {0}."
+    -- no steps
     case [] (becomes [] 0b1 0b1)
-    -- "{0} {1}, {1} {0} and {0,1}: each restated {0,1}, ends {1} {1,2}."
+    -- two independent actions, in two orders and in one step
     ∷ case (0b1 ∷ 0b10 ∷ []) (becomes (0b11 ∷ []) 0b10 0b110)
     ∷ case (0b10 ∷ 0b1 ∷ []) (becomes (0b11 ∷ []) 0b10 0b110)
     ∷ case (0b11 ∷ []) (becomes (0b11 ∷ []) 0b10 0b110)
-    -- "{1}: ends {0} {1,2}."
+    -- one component moves, the other keeps its set
     ∷ case (0b10 ∷ []) (becomes (0b10 ∷ []) 0b1 0b110)
-    -- "{0} {1} {2}: restated {0,1} {2}, ends {0} {0}."
+    -- two independent actions, then one that both components have
     ∷ case (0b1 ∷ 0b10 ∷ 0b100 ∷ []) (becomes (0b11 ∷ 0b100 ∷ []) 0b1 0b1)
-    -- "{0,2}: 11 at 0. {2}: 12 at 0. {0} {0}: 12 at 1."
+    -- R11 at step 0, R12 at step 0, R12 at step 1
     ∷ case (0b101 ∷ []) (refusedBy 11 0)
     ∷ case (0b100 ∷ []) (refusedBy 12 0)
     ∷ case (0b1 ∷ 0b1 ∷ []) (refusedBy 12 1)
-    -- "{0} {0,2}: 11 at 1, though 0 is not enabled there either."
+    -- R11 at step 1, which comes before R12: action 0 is not enabled there
     ∷ case (0b1 ∷ 0b101 ∷ []) (refusedBy 11 1)
     ∷ []
 
@@ -61,17 +62,10 @@ holdsFor b (refusedBy k i) = isRefusedBy (verdict b) k i
 abbrev pub holds : Case → Bool
 holds c = holdsFor (pairSheet (c .given)) (c .due)
 
--- the worked example: "With the steps {0} {1} {2} {0}"
+-- X1: the worked example, with the steps {0} {1} {2} {0}
 abbrev pub workedSheet : List ℕ
 workedSheet = pairSheet (0b1 ∷ 0b10 ∷ 0b100 ∷ 0b1 ∷ [])
 
--- "The program prints exactly": accepted 4 3 13 0, step 0 1, step 2, step 0, end 0 1, end 1 0
+-- what is printed for it: accepted 4 3 13 0, step 0 1, step 2, step 0, end 0 1, end 1 0
 abbrev pub printed : List ℕ
-printed =
-    97 ∷ 99 ∷ 99 ∷ 101 ∷ 112 ∷ 116 ∷ 101 ∷ 100 ∷ 32 ∷ 52 ∷ 32 ∷ 51 ∷ 32 ∷ 49 ∷ 51 ∷ 32 ∷ 48 ∷ 10
-    ∷ 115 ∷ 116 ∷ 101 ∷ 112 ∷ 32 ∷ 48 ∷ 32 ∷ 49 ∷ 10
-    ∷ 115 ∷ 116 ∷ 101 ∷ 112 ∷ 32 ∷ 50 ∷ 10
-    ∷ 115 ∷ 116 ∷ 101 ∷ 112 ∷ 32 ∷ 48 ∷ 10
-    ∷ 101 ∷ 110 ∷ 100 ∷ 32 ∷ 48 ∷ 32 ∷ 49 ∷ 10
-    ∷ 101 ∷ 110 ∷ 100 ∷ 32 ∷ 49 ∷ 32 ∷ 48 ∷ 10
-    ∷ []
+printed = textOf "accepted 4 3 13 0\nstep 0 1\nstep 2\nstep 0\nend 0 1\nend 1 0\n"

@@ -1,5 +1,5 @@
 -- The answer of a call on two sheets: the refusal of the first, else that of the second, else 14; a refusal tells its sheet, 0 for 14
--- (document 01, below the refusal list).
+-- (O6, O7; document 01, below the refusal list).
 -- Assumes nothing.
 use mathlib.Core.Bool.{Bool, true, false, not, _||_}
 use mathlib.Core.List.{List}
@@ -10,7 +10,7 @@ use Rattle.sheet.specs.Refusals.{sameBytes}
 use Rattle.sheet.specs.Verdict.{verdict}
 use Rattle.answers.specs.Outcomes.{Outcome, given, refused, onSheet}
 
--- 14: the two have other bytes before S, or another S, n or m
+-- R14: the two have other bytes before S, or another S, n or m
 unfoldable pub tablesDiffer : List ℕ → List ℕ → Bool
 tablesDiffer b c =
     not (sameBytes (front b) (front c)) || not (eqb (stepsAt b) (stepsAt c))
@@ -21,5 +21,5 @@ unlessDiffer true x = refused 14 0 0
 unlessDiffer false x = given x
 
 -- x as the answer for the two sheets, unless the pair is refused
-unfoldable pub ofPair : {A : Type 0} → List ℕ → List ℕ → A → Outcome A
-ofPair b c x = onSheet 0 (verdict b) (onSheet 1 (verdict c) (unlessDiffer (tablesDiffer b c) x))
+unfoldable pub ofTwo : {A : Type 0} → List ℕ → List ℕ → A → Outcome A
+ofTwo b c x = onSheet 0 (verdict b) (onSheet 1 (verdict c) (unlessDiffer (tablesDiffer b c) x))

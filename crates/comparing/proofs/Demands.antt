@@ -8,43 +8,29 @@ use Prim.Native.Nat.{ℕ, _-_, _<_, _≤_}
 use native.Mathlib.Omega.{arith}
 use lib.ListN.{length, drop}
 use Rattle.sheet.specs.Layout.{front, stepCount}
-use Rattle.sheet.specs.Verdict.{Verdict, verdict, IsVerdict}
 use Rattle.answers.specs.declared.Answer.{Answer}
-use Rattle.answers.specs.Restated.{restatedSteps, restated}
+use Rattle.answers.specs.Restated.{restated}
 use Rattle.answers.specs.Related.{SameTables}
-use Rattle.answers.specs.Outcomes.{refused, single, bit}
+use Rattle.answers.specs.Outcomes.{bit}
+use Rattle.answers.specs.FirstRefusal.{TwoSheetRefusal}
 use Rattle.answers.specs.SameWork.{sameWork}
 use Rattle.answers.specs.Leaner.{winner}
-use Rattle.answers.proofs.Told.{refused-only, refused-told, number-only, number-exactly, bit-exactly}
-use Rattle.answers.proofs.Restated.{restated-normal, restated-step-count}
-use Rattle.answers.proofs.TwoSheets.{pair-first, pair-second, pair-apart}
-use Rattle.answers.proofs.Demands.{demand1, demand3, answers}
+use Rattle.answers.proofs.Told.{number-only, number-exactly, bit-exactly}
+use Rattle.answers.proofs.FirstRefusal.{work-refuses, winner-refuses, number-or}
+use Rattle.answers.proofs.Laws.{restated-laws, answer-laws}
 use Rattle.desk.specs.Demands.{Wrote}
-use Rattle.desk.proofs.Demands.{wrote-accepted, wrote-restated}
-use Rattle.comparing.specs.Calls.{SameWorkAnswer, WinnerAnswer}
-use Rattle.comparing.specs.Demands.{PairRefusals, SameWorkDemand, LeanerDemand}
+use Rattle.desk.proofs.Demands.{wrote-accepted, wrote-restated, call-demand3}
+use Rattle.comparing.specs.Calls.{WinnerAnswer}
+use Rattle.comparing.specs.Demands.{TwoSheetDemand1, SameWorkDemand, LeanerDemand}
 
 -- ---- the refusals
 
-first : (b : List ℕ) (k i : ℕ) → IsVerdict b (Verdict.refused k i) → verdict b ≡ Verdict.refused k i
-first b k i h = sym (demand1 .only-refusal b (Verdict.refused k i) h)
-
-work-refused : (b c : List ℕ) (r : Answer) → SameWorkAnswer b c r → (k i s : ℕ) → sameWork b c ≡ refused k i s → r ≡ Answer.Refused k i s
-work-refused b c r t = refused-told (λ x. single (bit x)) r (sameWork b c) t
-
-winner-refused : (b c : List ℕ) (r : Answer) → WinnerAnswer b c r → (k i s : ℕ) → winner b c ≡ refused k i s → r ≡ Answer.Refused k i s
-winner-refused b c r t = refused-told single r (winner b c) t
-
-pub pair-refusals : PairRefusals
-unfolding sameWork winner
-pair-refusals =
+pub two-sheet-demand1 : TwoSheetDemand1
+two-sheet-demand1 =
     record {
-      work-first = λ b c r k i t h. work-refused b c r t k i 0 (pair-first b c _ k i (first b k i h));
-      work-second = λ b c r k i t acc h. work-refused b c r t k i 1 (pair-second b c _ k i acc (first c k i h));
-      work-tables = λ b c r t acc acc′ n. work-refused b c r t 14 0 0 (pair-apart b c _ acc acc′ n);
-      winner-first = λ b c r k i t h. winner-refused b c r t k i 0 (pair-first b c _ k i (first b k i h));
-      winner-second = λ b c r k i t acc h. winner-refused b c r t k i 1 (pair-second b c _ k i acc (first c k i h));
-      winner-tables = λ b c r t acc acc′ n. winner-refused b c r t 14 0 0 (pair-apart b c _ acc acc′ n);
+      same-work-answers = λ b c. number-or bit (TwoSheetRefusal b c) (sameWork b c) (work-refuses b c);
+      winner-answers = λ b c. number-or (λ x. x) (TwoSheetRefusal b c) (winner b c) (winner-refuses b c);
+      no-section = λ b c p k i s h q. q ∙ answer-laws .no-section b c k i s (winner-refuses b c k i s .1 h);
     }
 
 -- ---- same work
@@ -56,32 +42,28 @@ same-written o p =
 pub same-work-demand : SameWorkDemand
 same-work-demand =
     record {
-      same-exactly = λ b c r t. Iff·trans (bit-exactly r (sameWork b c) t true) (answers .same-exactly b c);
-      same-bytes = λ b c w v r bs cs t o p.
-          Iff·trans (Iff·trans (bit-exactly r (sameWork b c) t true) (answers .same-exactly b c))
-          (Iff·symm (Iff·trans (same-written o p) (demand3 .same-bytes b c bs cs (wrote-accepted o) (wrote-accepted p))));
-      other-exactly = λ b c r t. Iff·trans (bit-exactly r (sameWork b c) t false) (answers .other-exactly b c);
+      same-exactly = λ b c r t. Iff·trans (bit-exactly r (sameWork b c) t true) (answer-laws .same-exactly b c);
+      same-bytes = λ b c w v r t o p.
+          Iff·trans (Iff·trans (bit-exactly r (sameWork b c) t true) (answer-laws .same-exactly b c))
+          (Iff·symm (Iff·trans (same-written o p) (restated-laws .same-bytes b c (wrote-accepted o) (wrote-accepted p))));
+      other-exactly = λ b c r t. Iff·trans (bit-exactly r (sameWork b c) t false) (answer-laws .other-exactly b c);
     }
 
 -- ---- the leaner answer
 
--- the restated steps counted in the bytes as written
-written-count : {b w : List ℕ} → Wrote b w → stepCount w ≡ length (restatedSteps b)
-written-count {b} o = ap stepCount (wrote-restated o) ∙ restated-step-count b (wrote-accepted o) ∙ sym (ap length (restated-normal b))
-
 module _ (b c w v : List ℕ) (r : Answer) (t : WinnerAnswer b c r) (o : Wrote b w) (p : Wrote c v) (same : SameTables b c) where
   first-told : (r ≡ Answer.Given 0) ↔ (stepCount w ≤ stepCount v)
   first-told =
-      let k = written-count o in
-      let l = written-count p in
-      let told = Iff·trans (number-exactly r (winner b c) t 0) (answers .first-wins b c) in
+      let k = call-demand3 .written-count b w o in
+      let l = call-demand3 .written-count c v p in
+      let told = Iff·trans (number-exactly r (winner b c) t 0) (answer-laws .first-wins b c) in
       (λ e. let h = told .0 e .3 in omega arith, λ h. told .1 (wrote-accepted o, wrote-accepted p, same, omega arith))
 
   second-told : (r ≡ Answer.Given 1) ↔ (stepCount v < stepCount w)
   second-told =
-      let k = written-count o in
-      let l = written-count p in
-      let told = Iff·trans (number-exactly r (winner b c) t 1) (answers .second-wins b c) in
+      let k = call-demand3 .written-count b w o in
+      let l = call-demand3 .written-count c v p in
+      let told = Iff·trans (number-exactly r (winner b c) t 1) (answer-laws .second-wins b c) in
       (λ e. let h = told .0 e .3 in omega arith, λ h. told .1 (wrote-accepted o, wrote-accepted p, same, omega arith))
 
 pub leaner-demand : LeanerDemand
@@ -91,11 +73,10 @@ leaner-demand =
       second-wins = λ b c w v r t o p same. second-told b c w v r t o p same;
       first-section = λ b c p t h.
           let won = number-only (winner b c) 0 t in
-          ap (λ (x : List ℕ). front b ++ (x ++ drop (length b - 10) b)) (h ∙ answers .first-section b c won)
-          ∙ answers .section-between b (answers .first-wins b c .0 won .0);
+          ap (λ (x : List ℕ). front b ++ (x ++ drop (length b - 10) b)) (h ∙ answer-laws .first-section b c won)
+          ∙ answer-laws .section-between b (answer-laws .first-wins b c .0 won .0);
       second-section = λ b c p t h.
           let won = number-only (winner b c) 1 t in
-          ap (λ (x : List ℕ). front c ++ (x ++ drop (length c - 10) c)) (h ∙ answers .second-section b c won)
-          ∙ answers .section-between c (answers .second-wins b c .0 won .1);
-      no-section = λ b c p k i s t h. h ∙ answers .no-section b c k i s (refused-only single (winner b c) k i s t);
+          ap (λ (x : List ℕ). front c ++ (x ++ drop (length c - 10) c)) (h ∙ answer-laws .second-section b c won)
+          ∙ answer-laws .section-between c (answer-laws .second-wins b c .0 won .1);
     }

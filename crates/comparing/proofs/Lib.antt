@@ -1,3 +1,3 @@
 pub mod Sameness
-pub mod PairCalls
+pub mod TwoSheetCalls
 pub mod Demands

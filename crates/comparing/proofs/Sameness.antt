@@ -3,8 +3,9 @@
 use mathlib.Core.Path.{_≡_, sym, ap}
 use mathlib.Core.Bool.{true, false}
 use mathlib.Core.List.{List}
-use Prim.Native.Nat.{ℕ, _≤_, _<_}
+use Prim.Native.Nat.{ℕ, _+_, _≤_, _<_}
 use native.Mathlib.Omega.{arith}
+use borrow.Author.Count.{below-more}
 use lib.ListN.{length, getD}
 use lib.Seq.{ext-getD}
 use Rattle.sets.proofs.Bools.{false-iff}
@@ -26,6 +27,12 @@ module _ (a b : List ℕ) where
 
   pub apart-at : (i : ℕ) → ¬ (getD a i 0 ≡ getD b i 0) → false ≡ sameBytes a b
   apart-at i n = lists-apart (λ e. n (ap (λ (l : List ℕ). getD l i 0) e))
+
+  pub same-none : length a ≡ length b → SameTo a b 0
+  same-none e = record { within = omega arith; as-long = e; passed = λ k h. absurd (omega arith) }
+
+  pub same-more : (i : ℕ) → SameTo a b i → i < length a → getD a i 0 ≡ getD b i 0 → SameTo a b (i + 1)
+  same-more i p l e = record { within = omega arith; as-long = p .as-long; passed = below-more _ _ (p .passed) e }
 
   pub same-all : (i : ℕ) → SameTo a b i → length a ≤ i → true ≡ sameBytes a b
   same-all i p l = sym (same-bytes a b .1 (ext-getD 0 a b (p .as-long) (λ k h. p .passed k (omega arith))))

@@ -8,14 +8,14 @@ use Rattle.answers.specs.Outcomes.{values, single, bit, outcomeOf}
 use Rattle.answers.specs.SameWork.{sameWork}
 use Rattle.answers.specs.Leaner.{winner, leaner}
 
--- same work: 1 for yes, 0 for no, or the refusal of the pair
+-- A1: same work: 1 for yes, 0 for no, or the refusal of the pair
 abbrev pub SameWorkAnswer : List ℕ → List ℕ → Answer → Type 0
 SameWorkAnswer b c r = outcomeOf r ≡ values (λ t. single (bit t)) (sameWork b c)
 
--- which sheet is leaner, 0 or 1, or the refusal of the pair
+-- A3: which sheet is leaner, 0 or 1, or the refusal of the pair
 abbrev pub WinnerAnswer : List ℕ → List ℕ → Answer → Type 0
 WinnerAnswer b c r = outcomeOf r ≡ values single (winner b c)
 
--- the part of the leaner sheet that is handed back
+-- A2: the part of the leaner sheet that is handed back
 abbrev pub LeanerPart : List ℕ → List ℕ → List ℕ → Type 0
 LeanerPart b c p = p ≡ leaner b c

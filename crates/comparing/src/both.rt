@@ -1,8 +1,8 @@
-// The check of two sheets given together: all refusals of the first come before those of the second, then 14.
+// O6: the check of two sheets given together: the refusals of the first, then those of the second, then 14.
 ghost use mathlib.Core.Path.{_≡_};
 ghost use Rattle.sheet.specs.Verdict.{verdict};
 ghost use Rattle.answers.specs.Outcomes.{given, outcomeOf, onSheet, sizesOf};
-ghost use Rattle.answers.specs.TwoSheets.{ofPair};
+ghost use Rattle.answers.specs.TwoSheets.{ofTwo};
 use crate::tables;
 use answers::Answer;
 use desk::verdict;
@@ -24,7 +24,7 @@ fn check_second(second: &[u8]) -> Answer
 
 // The sizes of two accepted sheets over the same tables, or the refusal of the pair.
 pub fn check_both(first: &[u8], second: &[u8]) -> Answer
-    ensures { λ r. ⌜ outcomeOf r ≡ ofPair (now (first .entry)) (now (second .entry)) (sizesOf (now (first .entry))) ⌝ }
+    ensures { λ r. ⌜ outcomeOf r ≡ ofTwo (now (first .entry)) (now (second .entry)) (sizesOf (now (first .entry))) ⌝ }
 {
     let one = verdict::check(first);
     let Answer::Accepted(sizes) = one else {

@@ -4,12 +4,8 @@ mod both;
 mod restated;
 mod tables;
 
-ghost use mathlib.Core.Path.{_≡_};
-ghost use Rattle.answers.specs.Leaner.{stepSection};
-ghost use Rattle.desk.specs.AcceptedSheet.{AcceptedSheet};
 ghost use Rattle.comparing.specs.Calls.{SameWorkAnswer, WinnerAnswer, LeanerPart};
 use answers::Answer;
-use answers::Sizes;
 
 // Same work: 1 where the two sheets are related, 0 where they are not.
 pub fn same_work(first: &[u8], second: &[u8]) -> Answer
@@ -33,15 +29,6 @@ pub fn winner(first: &[u8], second: &[u8]) -> Answer
     Answer::Given(answers::bit(restated::second_leaner(first, second, sizes)))
 }
 
-// The step section of an accepted sheet.
-fn step_section(sheet: &[u8], sizes: Sizes) -> &[u8]
-    requires { ⌜ AcceptedSheet (now sheet) sizes ⌝ }
-    ensures { λ r. ⌜ now r ≡ stepSection (now (sheet .entry)) ⌝ }
-{
-    let s = sizes.s;
-    &sheet[s..sheet.len() - 10]
-}
-
 // The step section of the leaner sheet, from its caller's own bytes; an empty part for a refused pair.
 pub fn leaner<'a>(first: &'a [u8], second: &'a [u8]) -> &'a [u8]
     ensures { λ r. ⌜ LeanerPart (now (first .entry)) (now (second .entry)) (now r) ⌝ }
@@ -51,7 +38,7 @@ pub fn leaner<'a>(first: &'a [u8], second: &'a [u8]) -> &'a [u8]
         return &first[0..0];
     };
     if restated::second_leaner(first, second, sizes) {
-        return step_section(second, sizes);
+        return reading::step_section(second, sizes.s);
     }
-    step_section(first, sizes)
+    reading::step_section(first, sizes.s)
 }

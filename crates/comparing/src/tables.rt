@@ -22,7 +22,7 @@ fn same_bytes(a: &[u8], b: &[u8]) -> bool
     true
 }
 
-// 14: whether two accepted sheets differ in the bytes before S, or in S, n or m.
+// R14: whether two accepted sheets have other bytes before S, or another S, n or m.
 pub fn differ(first: &[u8], second: &[u8], sizes: Sizes, sizes2: Sizes) -> bool
     requires { ⌜ AcceptedSheet (now first) sizes × AcceptedSheet (now second) sizes2 ⌝ }
     ensures { λ r. ⌜ r ≡ tablesDiffer (now (first .entry)) (now (second .entry)) ⌝ }

@@ -13,17 +13,17 @@ use native.Mathlib.Omega.{arith}
 use lib.Dec.{eqb}
 use lib.Bits.{bitAnd}
 use lib.ListN.{length, getD}
-use Rattle.sets.specs.Lists.{some, Distinct}
+use Rattle.sets.specs.Lists.{anyOf, Distinct}
 use Rattle.sets.specs.Bits.{member, members}
 use Rattle.sets.proofs.Bools.{clash as both-ways, iff-bool, and-true, eqb-true, eqb-false}
-use Rattle.sets.proofs.Lists.{some-intro, some-elim, none-false}
+use Rattle.sets.proofs.Lists.{anyOf-intro, anyOf-elim, none-false}
 use Rattle.sets.proofs.Members.{member-zero, member-and, member-some, member-lt, members-mem}
 use Rattle.traces.specs.Foata.{further, reach}
 use Rattle.traces.proofs.Reach.{reach-or}
 use Rattle.systems.specs.Tables.{Tables, InOrder}
 use Rattle.systems.specs.Independence.{dependent}
 use Rattle.systems.specs.Checking.{notApart}
-use Rattle.systems.proofs.Dependence.{Shared, OneEach, dependent-cases, dependent-shares, clash-exact}
+use Rattle.systems.proofs.Dependence.{ShareAlphabet, OneEach, dependent-cases, dependent-shares, clash-exact}
 use Rattle.systems.proofs.Executions.{members-distinct}
 use Rattle.sheet.specs.Sections.{Alphabets}
 use Rattle.dependence.specs.participants.Participants.{participates, Participants, OfSixteen}
@@ -111,25 +111,25 @@ met-exact x y a = go (eqb (bitAnd x y) 0) refl
 
 module _ (T : Tables) (order : InOrder T) (n : ℕ) (l : List ℕ) (A : Alphabets T n l) where
   -- the union has just the actions that depend on some action of the set
-  pub union-depends : (y r : ℕ) → y < 2 ^ 64 → UnionMet l n y r → (a : ℕ) → a < T .actions → member r a ≡ some (dependent T a) (members y)
-  union-depends y r fits U a below = iff-bool (member r a) (some (dependent T a) (members y)) (there, back)
+  pub union-depends : (y r : ℕ) → y < 2 ^ 64 → UnionMet l n y r → (a : ℕ) → a < T .actions → member r a ≡ anyOf (dependent T a) (members y)
+  union-depends y r fits U a below = iff-bool (member r a) (anyOf (dependent T a) (members y)) (there, back)
     where
       has : (j b : ℕ) → j < n → member (getD l j 0) b ≡ member (T .alphabet j) b
       has j b h = ap (λ (x : ℕ). member x b) (A .each j h)
 
-      there : member r a ≡ true → some (dependent T a) (members y) ≡ true
+      there : member r a ≡ true → anyOf (dependent T a) (members y) ≡ true
       there m =
           let u = U a .0 m in
           let j = u .0 in
           let s = met-exact (getD l j 0) y a .0 (u .2) in
           let b = s .1 .0 in
           let h : j < T .components = let k = u .1 in let e = A .count in omega arith in
-          some-intro (dependent T a) (members y) {x = b} (members-mem y b .1 (member-lt 64 y b fits (s .1 .2), s .1 .2))
+          anyOf-intro (dependent T a) (members y) {x = b} (members-mem y b .1 (member-lt 64 y b fits (s .1 .2), s .1 .2))
           (dependent-cases T a b .1 (inr (j, h, sym (has j a (u .1)) ∙ s .0, sym (has j b (u .1)) ∙ s .1 .1)))
 
-      back : some (dependent T a) (members y) ≡ true → member r a ≡ true
+      back : anyOf (dependent T a) (members y) ≡ true → member r a ≡ true
       back e =
-          let s = some-elim (dependent T a) (members y) e in
+          let s = anyOf-elim (dependent T a) (members y) e in
           let b = s .0 in
           let t = dependent-shares T a b (order .action-used a below) .0 (s .2) in
           let h : t .0 < n = let k = t .1 in let e = A .count in omega arith in
@@ -148,30 +148,30 @@ reach-never (s ∷ ss) = ap₂ further (none-false (λ b. false) s (λ x m. refl
 
 -- the steps reached by one of some components, by the last step of each
 reach-largest : (o last : List ℕ) (ss : List (List ℕ)) (js : List ℕ) → ((j : ℕ) → List·Memᴰ j js → getD last j 0 ≡ reach (participates o j) ss)
-    → reach (λ b. some (λ j. participates o j b) js) ss ≡ largest last js
+    → reach (λ b. anyOf (λ j. participates o j b) js) ss ≡ largest last js
 reach-largest o last ss [] h = reach-never ss
 reach-largest o last ss (j ∷ js) h =
-    reach-or (participates o j) (λ b. some (λ j. participates o j b) js) ss
+    reach-or (participates o j) (λ b. anyOf (λ j. participates o j b) js) ss
     ∙ ap₂ max (sym (h j (List·Memᴰ·head refl))) (reach-largest o last ss js (λ i m. h i (List·Memᴰ·tail m)))
 
 module _ (T : Tables) (order : InOrder T) (o : List ℕ) (fit : OfSixteen o) (O : Participants T o) (a : ℕ) (below : a < T .actions) where
   -- an action depends on just those with which it has a participant in common
-  pub depends-participants : (b : ℕ) → dependent T a b ≡ some (λ j. participates o j b) (members (getD o a 0))
+  pub depends-participants : (b : ℕ) → dependent T a b ≡ anyOf (λ j. participates o j b) (members (getD o a 0))
   depends-participants b =
-      iff-bool (dependent T a b) (some (λ j. participates o j b) (members (getD o a 0))) (
+      iff-bool (dependent T a b) (anyOf (λ j. participates o j b) (members (getD o a 0))) (
         λ h. there (dependent-shares T a b (order .action-used a below) .0 h),
-        λ h. back (some-elim (λ j. participates o j b) (members (getD o a 0)) h),
+        λ h. back (anyOf-elim (λ j. participates o j b) (members (getD o a 0)) h),
       )
     where
       action : (c j : ℕ) → j < T .components → member (T .alphabet j) c ≡ true → c < 64
       action c j h m = lt-of-lt-of-le (order .action-below j h c m) (order .actions-fit)
 
-      there : Shared T a b → some (λ j. participates o j b) (members (getD o a 0)) ≡ true
+      there : ShareAlphabet T a b → anyOf (λ j. participates o j b) (members (getD o a 0)) ≡ true
       there s =
           let j = s .0 in
           let m = O .each a (action a j (s .1) (s .2)) j .1 (s .1, s .2) in
           let low = member-lt 16 (getD o a 0) j (fit .small a) m in
-          some-intro (λ j. participates o j b) (members (getD o a 0)) (members-mem (getD o a 0) j .1 (omega arith, m))
+          anyOf-intro (λ j. participates o j b) (members (getD o a 0)) (members-mem (getD o a 0) j .1 (omega arith, m))
           (O .each b (action b j (s .1) (s .3)) j .1 (s .1, s .3))
 
       back : (j : ℕ) × List·Memᴰ j (members (getD o a 0)) × (participates o j b ≡ true) → dependent T a b ≡ true

@@ -6,7 +6,7 @@ ghost use Prim.Native.Nat.{ℕ, _<_, _≤_};
 ghost use lib.Dec.{eqb};
 ghost use lib.Bits.{bitAnd};
 ghost use lib.ListN.{length};
-ghost use Rattle.sets.specs.Lists.{some};
+ghost use Rattle.sets.specs.Lists.{anyOf};
 ghost use Rattle.sets.specs.Bits.{member, members};
 ghost use Rattle.traces.specs.Steps.{follows};
 ghost use Rattle.traces.specs.Offences.{firstOffence, offending};
@@ -26,7 +26,7 @@ fn alphabet_met(alphabet: u64, set: u64) -> u64
 fn actions_met(alphabets: &[u64], n: usize, set: u64) -> u64
     requires { ⌜ n ≤ length (now alphabets) ⌝ }
     ensures { λ r. ⌜ ((T : Tables) → InOrder T → Alphabets T n (now (alphabets .entry)) → (a : ℕ) → a < T .actions
-        → member r a ≡ some (dependent T a) (members set)) ⌝ }
+        → member r a ≡ anyOf (dependent T a) (members set)) ⌝ }
 {
     let mut met = 0;
     let mut j = 0;

@@ -1,44 +1,43 @@
--- The demands of the calls, proved: each record of `specs/Demands.antt`, from the demands of the definitions.
+-- The demands of the calls, proved: each record of `specs/Demands.antt`, from the laws of the definitions.
 -- Assumes nothing.
-use mathlib.Core.Path.{_≡_, refl, sym, ap, ap₂, _∙_, subst}
-use mathlib.Core.Logic.{_↔_, _⊎_, inl, inr}
+use mathlib.Core.Path.{_≡_, refl, sym, ap, _∙_, subst}
+use mathlib.Core.Logic.{_↔_, Iff·trans, inl, inr}
 use mathlib.Core.Bool.{Bool, true, false, cond}
-use mathlib.Core.List.{List, map}
-use mathlib.Core.Option.{none}
+use mathlib.Core.List.{List, _++_}
+use mathlib.Core.Option.{none, some}
 use Prim.Native.Nat.{ℕ, _<_, _≤_}
 use native.Mathlib.Omega.{arith}
 use lib.Dec.{ltb}
-use lib.ListN.{length, take, drop, getD}
-use Rattle.sets.specs.Bits.{member, members}
+use lib.ListN.{length, take, drop, getD, replicate}
+use Rattle.sets.specs.Bits.{member}
 use Rattle.sets.proofs.Bools.{ltb-true}
 use Rattle.sets.proofs.Filling.{map-below, map-below-at}
-use Rattle.traces.specs.Offences.{firstOffence, offending}
+use Rattle.traces.specs.Offences.{offending}
 use Rattle.systems.specs.Interleaving.{Global, Reaches}
 use Rattle.systems.specs.StepExecution.{Linearization, Picked}
-use Rattle.systems.specs.Tables.{systemOf}
-use Rattle.systems.specs.Independence.{dependent}
-use Rattle.systems.specs.Checking.{actionsOf}
-use Rattle.sheet.specs.Numbers.{AreBytes}
-use Rattle.sheet.specs.Layout.{componentCount, actionCount, transitionsAt, stepsAt, tablesOf, tables, stepCount, steps}
-use Rattle.sheet.specs.Verdict.{Verdict, accepted, refused, verdict, IsVerdict, Accepted}
+use Rattle.sheet.specs.Layout.{componentCount, actionCount, transitionsAt, stepsAt, tablesOf, tables, stepCount}
+use Rattle.sheet.specs.Verdict.{Verdict, accepted, refused, verdict, Accepted}
 use Rattle.answers.specs.declared.Sizes.{Sizes}
 use Rattle.answers.specs.declared.Answer.{Answer}
-use Rattle.answers.specs.Outcomes.{given, refused as refusedBy, values, single, bit, outcomeOf, after, readOutcome}
-use Rattle.answers.specs.LentOutput.{unlessShort, fitting}
+use Rattle.answers.specs.Outcomes.{given, values, single, bit, outcomeOf, after, readOutcome}
+use Rattle.answers.specs.LentOutput.{lengthOr13}
 use Rattle.answers.specs.EndSets.{endSet}
 use Rattle.answers.specs.Restated.{restated}
-use Rattle.answers.specs.Related.{SameTables, RelatedSheets}
+use Rattle.answers.specs.Related.{RelatedSheets}
 use Rattle.answers.specs.Restating.{restating}
 use Rattle.answers.specs.ProcessCheck.{processCheck}
 use Rattle.answers.specs.Figure.{figure, figureOutcome}
 use Rattle.answers.specs.Stuck.{stuck, stuckOutcome}
-use Rattle.answers.proofs.Passing.{told-accepted, told-refused}
-use Rattle.answers.proofs.Told.{is-given, refused-only, number-only}
-use Rattle.answers.proofs.LentOutput.{given-long, refused-kept, given-written, given-behind}
-use Rattle.answers.proofs.Demands.{demand1, demand2, demand3, answers}
+use Rattle.answers.specs.FirstRefusal.{SheetRefusal, RestateRefusal, SizesOr}
+use Rattle.answers.specs.SheetExecution.{systemIn, actionSets, ProcessIn}
+use Rattle.answers.proofs.Passing.{told-accepted}
+use Rattle.answers.proofs.Told.{is-given, refused-only, number-only, offence-exactly}
+use Rattle.answers.proofs.LentOutput.{given-long, given-length, given-output, given-written}
+use Rattle.answers.proofs.FirstRefusal.{restate-refuses, process-refuses, figure-refuses, stuck-refuses, sizes-or, number-or}
+use Rattle.answers.proofs.Laws.{refusal-laws, output-laws, execution-laws, restated-laws, answer-laws}
 use Rattle.desk.specs.declared.verdict.EndSets.{EndSets}
-use Rattle.desk.specs.Calls.{CheckAnswer, EndSetsAnswer, endArrayBy, ProcessAnswer, RestateAnswer, FigureAnswer, StuckAnswer}
-use Rattle.desk.specs.Demands.{SaysAccepted, Wrote, Demand1, Demand2, Demand3}
+use Rattle.desk.specs.Calls.{CheckAnswer, EndSetsAnswer, endArrayBy, RestateAnswer}
+use Rattle.desk.specs.Demands.{SaysAccepted, Wrote, Demand1, Demand2, Demand3, AnswerDemand}
 
 -- ---- the verdict behind an answer
 
@@ -57,95 +56,54 @@ says-accepted b r c acc = go r (c ∙ ap (readOutcome b) acc)
     go (Answer.Given k) e = let z : _≡_ {A = ℕ} 0 1 = cc in absurd (omega arith)
     go (Answer.Refused k i s) e = let z : _≡_ {A = ℕ} 0 1 = cc in absurd (omega arith)
 
-first : (b : List ℕ) (v : Verdict) → verdict b ≡ v → IsVerdict b v
-first b v e = subst (IsVerdict b) e (demand1 .first-refusal b)
-
--- a refusal that a call tells is the sheet's
-refuses : {A : Type 0} (f : A → List ℕ) (b : List ℕ) (x : A) (k i s : ℕ) → refusedBy k i s ≡ values f (after (verdict b) (given x))
-    → IsVerdict b (refused k i) × (s ≡ 0)
-refuses f b x k i s e = go (verdict b) refl e
-  where
-    go : (v : Verdict) → verdict b ≡ v → refusedBy k i s ≡ values f (after v (given x)) → IsVerdict b (refused k i) × (s ≡ 0)
-    go accepted q h = let z : _≡_ {A = ℕ} 0 1 = cc in absurd (omega arith)
-    go (refused l j) q h =
-        let p : l ≡ k = cc in
-        let o : j ≡ i = cc in
-        let w : 0 ≡ s = cc in
-        (first b (refused k i) (q ∙ ap₂ refused p o), sym w)
-
-process-refused : (b : List ℕ) (k i s : ℕ) → ProcessAnswer b (Answer.Refused k i s) → IsVerdict b (refused k i) × (s ≡ 0)
-unfolding processCheck
-process-refused b k i s c = refuses (λ o. single (offending o)) b (firstOffence (dependent (tables b)) (map members (steps b))) k i s c
-
-figure-refused : (b : List ℕ) (k i s : ℕ) → FigureAnswer b (Answer.Refused k i s) → IsVerdict b (refused k i) × (s ≡ 0)
-unfolding figureOutcome
-figure-refused b k i s c = refuses single b (figure b) k i s c
-
-stuck-refused : (b : List ℕ) (k i s : ℕ) → StuckAnswer b (Answer.Refused k i s) → IsVerdict b (refused k i) × (s ≡ 0)
-unfolding stuckOutcome
-stuck-refused b k i s c = refuses (λ t. single (bit t)) b (stuck b) k i s c
-
-restate-refused : (b out left : List ℕ) (k i s : ℕ) → RestateAnswer b out (Answer.Refused k i s) left
-    → (s ≡ 0) × (IsVerdict b (refused k i) ⊎ ((k ≡ 13) × (i ≡ 0) × Accepted b × (length out < length (restated b))))
-unfolding restating fitting
-restate-refused b out left k i s c = go (verdict b) refl (c .answer-told)
-  where
-    short : (t : Bool) → ltb (length out) (length (restated b)) ≡ t → refusedBy k i s ≡ values single (unlessShort t (length (restated b)))
-        → (k ≡ 13) × (i ≡ 0) × (s ≡ 0) × (length out < length (restated b))
-    short true q e =
-        let p : 13 ≡ k = cc in
-        let o : 0 ≡ i = cc in
-        let w : 0 ≡ s = cc in
-        (sym p, sym o, sym w, ltb-true (length out) (length (restated b)) .0 q)
-    short false q e = let z : _≡_ {A = ℕ} 0 1 = cc in absurd (omega arith)
-
-    go : (v : Verdict) → verdict b ≡ v
-        → refusedBy k i s ≡ values single (after v (unlessShort (ltb (length out) (length (restated b))) (length (restated b))))
-        → (s ≡ 0) × (IsVerdict b (refused k i) ⊎ ((k ≡ 13) × (i ≡ 0) × Accepted b × (length out < length (restated b))))
-    go accepted q e = let r = short (ltb (length out) (length (restated b))) refl e in (r .2, inr (r .0, r .1, q, r .3))
-    go (refused l j) q e =
-        let p : l ≡ k = cc in
-        let o : j ≡ i = cc in
-        let w : 0 ≡ s = cc in
-        (sym w, inl (first b (refused k i) (q ∙ ap₂ refused p o)))
-
 restate-given : (b out left : List ℕ) (r : Answer) → RestateAnswer b out r left → Accepted b → length (restated b) ≤ length out
     → r ≡ Answer.Given (length (restated b))
 restate-given b out left r c acc long = is-given r (length (restated b)) (c .answer-told ∙ ap (values single) (given-long b (length out) acc long))
 
+check-or : (b : List ℕ) (r : Answer) → CheckAnswer b r → SizesOr (SheetRefusal b) r
+check-or b r c = sizes-or b (componentCount b) (actionCount b) (transitionsAt b) (stepsAt b) r c
+
+writes : (b out left : List ℕ) (k : ℕ) → RestateAnswer b out (Answer.Given k) left → (k ≡ length (restated b)) × (left ≡ restated b ++ drop k out)
+writes b out left k c =
+    let told = number-only (restating b (length out)) k (c .answer-told) in
+    let size : length (restated b) ≡ k = given-length b (length out) k told in
+    (sym size, c .output-left ∙ given-output b out k told ∙ ap (λ (j : ℕ). restated b ++ drop j out) size)
+
 pub call-demand1 : Demand1
 call-demand1 =
     record {
-      check-accepts = λ b r c a. first b accepted (says-verdict b r c a);
-      check-refuses = λ b k i s c. let t = told-refused k i s (verdict b) _ c in (first b (refused k i) (t .0), t .1);
+      check-answers = check-or;
+      end-sets-answers = λ b r c. check-or b (r .answer) (c .answer-told);
+      process-answers = λ b. number-or offending (SheetRefusal b) (processCheck b) (process-refuses b);
+      figure-answers = λ b. number-or (λ x. x) (SheetRefusal b) (figureOutcome b) (figure-refuses b);
+      stuck-answers = λ b. number-or bit (SheetRefusal b) (stuckOutcome b) (stuck-refuses b);
+      restate-answers = λ b out left r c.
+          number-or (λ x. x) (RestateRefusal b (length out)) (restating b (length out)) (restate-refuses b (length out)) r (c .answer-told);
       sizes-told = λ b z c. let t = sizes b z c in (t .1, t .2, t .3, t .4);
-      process-refuses = process-refused;
-      figure-refuses = figure-refused;
-      stuck-refuses = stuck-refused;
-      restate-refuses = restate-refused;
       restate-serves = restate-given;
+      restate-writes = writes;
       refused-untouched = λ b out left k i s c.
-          c .output-left ∙ refused-kept b out k i s (refused-only single (restating b (length out)) k i s (c .answer-told));
-      behind-kept = λ b out left k c. ap (drop k) (c .output-left) ∙ given-behind b out k (number-only (restating b (length out)) k (c .answer-told));
+          c .output-left ∙ output-laws .refused-untouched b out k i s (refused-only single (restating b (length out)) k i s (c .answer-told));
     }
 
 -- ---- demand 2
 
-sets-told : (b : List ℕ) (r : EndSets) → EndSetsAnswer b r → Accepted b → (j : ℕ) → j < componentCount b → j < 16 → getD (r .sets) j 0 ≡ endSet b j
-sets-told b r c acc j l h =
+sets-at : (b : List ℕ) (r : EndSets) → EndSetsAnswer b r → Accepted b → (j : ℕ) → j < 16
+    → getD (r .sets) j 0 ≡ cond (ltb j (componentCount b)) (endSet b j) 0
+sets-at b r c acc j h =
     ap (λ (x : List ℕ). getD x j 0) (c .sets-told ∙ ap (λ (v : Verdict). endArrayBy v b) acc)
     ∙ map-below-at (λ i. cond (ltb i (componentCount b)) (endSet b i) 0) 16 j h
-    ∙ rw (ltb-true j (componentCount b) .1 l)
 
-picked : (b : List ℕ) (r : EndSets) → EndSetsAnswer b r → SaysAccepted (r .answer)
-    → (w : List ℕ) → Linearization (map actionsOf (steps b)) w → (t : Global)
-    → Picked (systemOf (tables b)) (λ j q. member (getD (r .sets) j 0) q ≡ true) t ↔ Reaches (systemOf (tables b)) w t
+sets-told : (b : List ℕ) (r : EndSets) → EndSetsAnswer b r → Accepted b → (j : ℕ) → j < componentCount b → j < 16 → getD (r .sets) j 0 ≡ endSet b j
+sets-told b r c acc j l h = sets-at b r c acc j h ∙ rw (ltb-true j (componentCount b) .1 l)
+
+picked : (b : List ℕ) (r : EndSets) → EndSetsAnswer b r → Accepted b → (w : List ℕ) → Linearization (actionSets b) w
+    → (t : Global) → Picked (systemIn b) (λ j q. member (getD (r .sets) j 0) q ≡ true) t ↔ Reaches (systemIn b) w t
 unfolding tables tablesOf
-picked b r c a w z t =
-    let acc = says-verdict b (r .answer) (c .answer-told) a in
-    let few = demand2 .accepted-exactly b .0 acc .0 .components-high in
+picked b r c acc w z t =
+    let few = execution-laws .accepted-exactly b .0 acc .0 .components-high in
     let same : (j : ℕ) → j < componentCount b → getD (r .sets) j 0 ≡ endSet b j = λ j l. sets-told b r c acc j l (omega arith) in
-    let exact = demand2 .picked-exactly b acc w z t in (
+    let exact = execution-laws .picked-exactly b acc w z t in (
       λ p. exact .0 (λ j l. subst (λ (x : ℕ). member x (t j) ≡ true) (same j l) (p j l)),
       λ q j l. subst (λ (x : ℕ). member x (t j) ≡ true) (sym (same j l)) (exact .1 q j l),
     )
@@ -153,10 +111,8 @@ picked b r c a w z t =
 pub call-demand2 : Demand2
 call-demand2 =
     record {
-      accepted-exactly = λ b r c. (
-        λ a. demand2 .accepted-exactly b .0 (says-verdict b r c a),
-        λ h. says-accepted b r c (demand2 .accepted-exactly b .1 h),
-      );
+      check-accepts = λ b r c. (says-verdict b r c, says-accepted b r c);
+      accepted-exactly = execution-laws .accepted-exactly;
       picked-exactly = picked;
     }
 
@@ -166,7 +122,7 @@ given-accepted : (b : List ℕ) (size k : ℕ) → restating b size ≡ given k 
 unfolding restating
 given-accepted b size k e = go (verdict b) refl e
   where
-    go : (v : Verdict) → verdict b ≡ v → after v (fitting (restated b) size) ≡ given k → v ≡ accepted
+    go : (v : Verdict) → verdict b ≡ v → after v (lengthOr13 (restated b) size) ≡ given k → v ≡ accepted
     go accepted q h = refl
     go (refused l j) q h = let z : _≡_ {A = ℕ} 0 1 = cc in absurd (omega arith)
 
@@ -179,57 +135,75 @@ wrote-accepted {b} {w} o = given-accepted b (length (o .lent)) (o .count) (wrote
 pub wrote-restated : {b w : List ℕ} → Wrote b w → w ≡ restated b
 wrote-restated {b} {w} o = o .bytes ∙ ap (take (o .count)) (o .call .output-left) ∙ given-written b (o .lent) (o .count) (wrote-given o)
 
-process-yes : (w : List ℕ) (r : Answer) → ProcessAnswer w r → processCheck w ≡ given none → r ≡ Answer.Given 0
-process-yes w r c e = go r (c ∙ ap (values (λ o. single (offending o))) e)
-  where
-    go : (x : Answer) → outcomeOf x ≡ given (single 0) → x ≡ Answer.Given 0
-    go (Answer.Accepted z) h = let z : _≡_ {A = ℕ} 0 1 = cc in absurd (omega arith)
-    go (Answer.Given k) h = let p : k ≡ 0 = cc in ap Answer.Given p
-    go (Answer.Refused k i s) h = let z : _≡_ {A = ℕ} 0 1 = cc in absurd (omega arith)
-
-same-sets : (b : List ℕ) → AreBytes b → Accepted b → (r s : EndSets) → EndSetsAnswer b r → EndSetsAnswer (restated b) s → s .sets ≡ r .sets
-same-sets b bs acc r s c d =
-    d .sets-told ∙ ap (λ (v : Verdict). endArrayBy v (restated b)) (demand3 .restated-accepted b bs acc)
+same-sets : (b : List ℕ) → Accepted b → (r s : EndSets) → EndSetsAnswer b r → EndSetsAnswer (restated b) s → s .sets ≡ r .sets
+same-sets b acc r s c d =
+    d .sets-told ∙ ap (λ (v : Verdict). endArrayBy v (restated b)) (restated-laws .restated-related b acc .second-accepted)
     ∙ map-below (λ j. cond (ltb j (componentCount (restated b))) (endSet (restated b) j) 0) (λ j. cond (ltb j (componentCount b)) (endSet b j) 0) 16
     (λ j l. each j)
     ∙ sym (c .sets-told ∙ ap (λ (v : Verdict). endArrayBy v b) acc)
   where
     each : (j : ℕ) → cond (ltb j (componentCount (restated b))) (endSet (restated b) j) 0 ≡ cond (ltb j (componentCount b)) (endSet b j) 0
     each j =
-        ap (λ (n : ℕ). cond (ltb j n) (endSet (restated b) j) 0) (sym (demand3 .restated-tables b bs acc .same-components))
+        ap (λ (n : ℕ). cond (ltb j n) (endSet (restated b) j) 0) (sym (restated-laws .restated-related b acc .same-tables .same-components))
         ∙ go (ltb j (componentCount b)) refl
       where
         go : (h : Bool) → ltb j (componentCount b) ≡ h → cond h (endSet (restated b) j) 0 ≡ cond h (endSet b j) 0
-        go true q = demand3 .restated-ends b bs acc j (ltb-true j (componentCount b) .0 q)
+        go true q = restated-laws .restated-ends b acc j (ltb-true j (componentCount b) .0 q)
         go false q = refl
+
+again : (b w out left : List ℕ) (r : Answer) → Wrote b w → RestateAnswer w out r left → length w ≤ length out
+    → (r ≡ Answer.Given (length w)) × (take (length w) left ≡ w)
+again b w out left r o c long =
+    let same : restated w ≡ w = ap restated (wrote-restated o) ∙ restated-laws .restated-again b (wrote-accepted o) ∙ sym (wrote-restated o) in
+    let acc : Accepted w = subst Accepted (sym (wrote-restated o)) (restated-laws .restated-related b (wrote-accepted o) .second-accepted) in
+    let size : length (restated w) ≡ length w = ap length same in
+    let told = given-long w (length out) acc (omega arith) in (
+      restate-given w out left r c acc (omega arith) ∙ ap Answer.Given size,
+      ap (take (length w)) (c .output-left) ∙ given-written w out (length w) (told ∙ ap given size) ∙ same,
+    )
 
 pub call-demand3 : Demand3
 call-demand3 =
     record {
-      written = λ b out left r c acc long.
-          record {
-            lent = out;
-            left = left;
-            count = length (restated b);
-            call = subst (λ (x : Answer). RestateAnswer b out x left) (restate-given b out left r c acc long) c;
-            bytes = refl;
-          };
-      same-bytes = λ b c w v bs cs o p.
-          let exact = demand3 .same-bytes b c bs cs (wrote-accepted o) (wrote-accepted p) in (
+      written-accepted = λ b w o. wrote-accepted o;
+      same-bytes = λ b c w v o p.
+          let exact = restated-laws .same-bytes b c (wrote-accepted o) (wrote-accepted p) in (
             λ e. exact .0 (sym (wrote-restated o) ∙ e ∙ wrote-restated p),
             λ r. wrote-restated o ∙ exact .1 r ∙ sym (wrote-restated p),
           );
-      written-accepted = λ b w bs o r c.
-          says-accepted w r c (subst Accepted (sym (wrote-restated o)) (demand3 .restated-accepted b bs (wrote-accepted o)));
-      written-process = λ b w bs o r c.
-          process-yes w r c
-          (subst (λ (x : List ℕ). processCheck x ≡ given none) (sym (wrote-restated o))
-          (answers .process-exactly (restated b) .1 (demand3 .restated-accepted b bs (wrote-accepted o), demand3 .restated-process b bs (wrote-accepted o))));
-      written-tables = λ b w bs o. subst (SameTables b) (sym (wrote-restated o)) (demand3 .restated-tables b bs (wrote-accepted o));
-      written-related = λ b w bs o. subst (RelatedSheets b) (sym (wrote-restated o)) (demand3 .restated-related b bs (wrote-accepted o));
-      written-ends = λ b w bs o r s c d.
-          same-sets b bs (wrote-accepted o) r s c (subst (λ (x : List ℕ). EndSetsAnswer x s) (wrote-restated o) d);
-      fewest-steps = λ b c w bs cs r o. subst (λ (x : List ℕ). stepCount x ≤ stepCount c) (sym (wrote-restated o)) (demand3 .fewest-steps b c bs cs r);
-      written-again = λ b w v bs o p.
-          wrote-restated p ∙ ap restated (wrote-restated o) ∙ demand3 .restated-again b bs (wrote-accepted o) ∙ sym (wrote-restated o);
+      written-related = λ b w o. subst (RelatedSheets b) (sym (wrote-restated o)) (restated-laws .restated-related b (wrote-accepted o));
+      written-process = λ b w o. subst ProcessIn (sym (wrote-restated o)) (restated-laws .restated-process b (wrote-accepted o));
+      written-ends = λ b w o r s c d. same-sets b (wrote-accepted o) r s c (subst (λ (x : List ℕ). EndSetsAnswer x s) (wrote-restated o) d);
+      fewest-steps = λ b c w r o. subst (λ (x : List ℕ). stepCount x ≤ stepCount c) (sym (wrote-restated o)) (restated-laws .fewest-steps b c r);
+      written-count = λ b w o. ap stepCount (wrote-restated o) ∙ restated-laws .restated-count b (wrote-accepted o);
+      written-no-longer = λ b w o. subst (λ (x : List ℕ). length x ≤ length b) (sym (wrote-restated o)) (restated-laws .restated-no-longer b (wrote-accepted o));
+      written-again = again;
+    }
+
+-- ---- the other calls
+
+figure-given : (b : List ℕ) → Accepted b → figureOutcome b ≡ given (figure b)
+unfolding figureOutcome
+figure-given b acc = rw acc
+
+stuck-given : (b : List ℕ) → Accepted b → stuckOutcome b ≡ given (stuck b)
+unfolding stuckOutcome
+stuck-given b acc = rw acc
+
+no-sets : (b : List ℕ) (r : EndSets) (k i s : ℕ) → EndSetsAnswer b r → SheetRefusal b k i s → r .sets ≡ replicate 16 0
+no-sets b r k i s c p =
+    elim p [
+      | inl h ↦ c .sets-told ∙ ap (λ (v : Verdict). endArrayBy v b) (sym (refusal-laws .only-refusal b (refused k i) (h .0)))
+      | inr h ↦ absurd (h .1)
+    ]
+
+pub answer-demand : AnswerDemand
+answer-demand =
+    record {
+      process-exactly = λ b r c. Iff·trans (offence-exactly r (processCheck b) c none) (answer-laws .process-exactly b);
+      offends-first = λ b r i c. Iff·trans (offence-exactly r (processCheck b) c (some i)) (answer-laws .offends-first b i);
+      ends-told = sets-at;
+      ends-refused = no-sets;
+      figure-told = λ b r c acc. is-given r (figure b) (c ∙ ap (values single) (figure-given b acc));
+      stuck-told = λ b r c acc. is-given r (bit (stuck b)) (c ∙ ap (values (λ t. single (bit t))) (stuck-given b acc));
     }

@@ -15,11 +15,11 @@ use Rattle.answers.specs.Figure.{figureOutcome}
 use Rattle.answers.specs.Stuck.{stuckOutcome}
 use Rattle.desk.specs.declared.verdict.EndSets.{EndSets}
 
--- the check: the sizes of an accepted sheet, or the refusal
+-- O1, O4: the check: the sizes of an accepted sheet, or the refusal
 abbrev pub CheckAnswer : List ℕ → Answer → Type 0
 CheckAnswer b r = outcomeOf r ≡ readOutcome b (verdict b)
 
--- the array of end sets of an accepted sheet, 0 for the components that it does not have; zeros for a refused one
+-- E5: the array of end sets of an accepted sheet, 0 for the components that it does not have; zeros for a refused one
 abbrev pub endArrayBy : Verdict → List ℕ → List ℕ
 endArrayBy accepted b = endArray b
 endArrayBy (refused k i) b = replicate 16 0
@@ -29,19 +29,19 @@ pub record EndSetsAnswer (b : List ℕ) (r : EndSets) : Type 0 where
   pub answer-told : CheckAnswer b (r .answer)
   pub sets-told : r .sets ≡ endArrayBy (verdict b) b
 
--- the process check: 0 for yes, else one past the index of the first step that offends
+-- N7: the process check: 0 for yes, else one past the index of the first step that offends
 abbrev pub ProcessAnswer : List ℕ → Answer → Type 0
 ProcessAnswer b r = outcomeOf r ≡ values (λ o. single (offending o)) (processCheck b)
 
--- restating: the bytes written, and the output afterwards
+-- N9: restating: the bytes written, and the output afterwards
 pub record RestateAnswer (b out : List ℕ) (r : Answer) (after : List ℕ) : Type 0 where
   pub answer-told : outcomeOf r ≡ values single (restating b (length out))
   pub output-left : after ≡ outputAfter b out
 
--- the concurrency figure
+-- A4: the concurrency figure
 abbrev pub FigureAnswer : List ℕ → Answer → Type 0
 FigureAnswer b r = outcomeOf r ≡ values single (figureOutcome b)
 
--- stuck: 1 for yes, 0 for no
+-- A5: stuck: 1 for yes, 0 for no
 abbrev pub StuckAnswer : List ℕ → Answer → Type 0
 StuckAnswer b r = outcomeOf r ≡ values (λ t. single (bit t)) (stuckOutcome b)

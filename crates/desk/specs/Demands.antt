@@ -1,27 +1,32 @@
--- The demands, sentence by sentence, of what the desk's calls answer and write. Each statement is about any input, answer and output of which
--- a call's promise holds (`CheckAnswer`, `EndSetsAnswer`, `ProcessAnswer`, `RestateAnswer`, `FigureAnswer`, `StuckAnswer`: the `ensures` of the
--- calls); that the calls end and keep their promises for every input is what the check of their code proves.
--- The same demands of the definitions alone: `Rattle.answers.specs.Demands`. A sheet is a list of bytes: `AreBytes` holds of any slice.
+-- The demands of document 01 on the calls on one sheet, sentence by sentence. Each speaks of any input, answer and output of which a call's
+-- promise holds (specs/Calls: the `ensures` of the calls). That the calls end and keep their promises for every input is what the check of
+-- their code proves. For two sheets: comparing/specs/Demands; for the text: report/specs/Demands; for C: oatmist/specs/Demands.
 -- Assumes nothing.
 use mathlib.Core.Path.{_≡_}
-use mathlib.Core.Logic.{_↔_, _⊎_}
-use mathlib.Core.Bool.{true}
-use mathlib.Core.List.{List, map}
-use Prim.Native.Nat.{ℕ, _<_, _≤_}
-use lib.ListN.{length, take, drop, getD}
-use Rattle.sets.specs.Bits.{member}
+use mathlib.Core.Logic.{_↔_}
+use mathlib.Core.Bool.{true, cond}
+use mathlib.Core.List.{List, _++_, map}
+use Prim.Native.Nat.{ℕ, _+_, _<_, _≤_}
+use lib.Dec.{ltb}
+use lib.ListN.{length, take, drop, getD, replicate}
+use Rattle.sets.specs.Bits.{member, members}
+use Rattle.traces.specs.Offences.{IsFirstOffence}
 use Rattle.systems.specs.Interleaving.{Global, Reaches}
-use Rattle.systems.specs.StepExecution.{Determinized, StepExecution, Linearization, Picked}
-use Rattle.systems.specs.Tables.{systemOf}
-use Rattle.systems.specs.Checking.{actionsOf}
-use Rattle.sheet.specs.Numbers.{AreBytes}
+use Rattle.systems.specs.StepExecution.{Determinized, Linearization, Picked}
+use Rattle.systems.specs.Independence.{dependent}
 use Rattle.sheet.specs.Layout.{componentCount, actionCount, transitionsAt, stepsAt, tables, stepCount, steps}
 use Rattle.sheet.specs.Limits.{InLimits}
-use Rattle.sheet.specs.Verdict.{Verdict, IsVerdict, Accepted}
+use Rattle.sheet.specs.Verdict.{Accepted}
 use Rattle.answers.specs.declared.Sizes.{Sizes}
 use Rattle.answers.specs.declared.Answer.{Answer}
-use Rattle.answers.specs.Restated.{restated}
-use Rattle.answers.specs.Related.{SameTables, RelatedSheets}
+use Rattle.answers.specs.Outcomes.{bit}
+use Rattle.answers.specs.EndSets.{endSet}
+use Rattle.answers.specs.Figure.{figure}
+use Rattle.answers.specs.Stuck.{stuck}
+use Rattle.answers.specs.FirstRefusal.{SheetRefusal, RestateRefusal, SizesOr, NumberOr}
+use Rattle.answers.specs.SheetExecution.{systemIn, actionSets, ExecutionTo, ProcessIn}
+use Rattle.answers.specs.Restated.{restatedSteps, restated}
+use Rattle.answers.specs.Related.{RelatedSheets}
 use Rattle.desk.specs.declared.verdict.EndSets.{EndSets}
 use Rattle.desk.specs.Calls.{CheckAnswer, EndSetsAnswer, ProcessAnswer, RestateAnswer, FigureAnswer, StuckAnswer}
 
@@ -38,48 +43,60 @@ pub record Wrote (b w : List ℕ) : Type 0 where
   pub call : RestateAnswer b lent (Answer.Given count) left
   pub bytes : w ≡ take count left
 
--- 1: every call gives the result or one numbered refusal, the first in the printed order, and a refused call leaves the output as it came.
+-- D1: every call gives its result, or the one refusal that is due; a refused call leaves the output as it came.
 pub record Demand1 : Type 0 where
-  pub check-accepts : (b : List ℕ) (r : Answer) → CheckAnswer b r → SaysAccepted r → IsVerdict b Verdict.accepted
-  pub check-refuses : (b : List ℕ) (k i s : ℕ) → CheckAnswer b (Answer.Refused k i s) → IsVerdict b (Verdict.refused k i) × (s ≡ 0)
+  pub check-answers : (b : List ℕ) (r : Answer) → CheckAnswer b r → SizesOr (SheetRefusal b) r
+  pub end-sets-answers : (b : List ℕ) (r : EndSets) → EndSetsAnswer b r → SizesOr (SheetRefusal b) (r .answer)
+  pub process-answers : (b : List ℕ) (r : Answer) → ProcessAnswer b r → NumberOr (SheetRefusal b) r
+  pub figure-answers : (b : List ℕ) (r : Answer) → FigureAnswer b r → NumberOr (SheetRefusal b) r
+  pub stuck-answers : (b : List ℕ) (r : Answer) → StuckAnswer b r → NumberOr (SheetRefusal b) r
+  pub restate-answers : (b out left : List ℕ) (r : Answer) → RestateAnswer b out r left → NumberOr (RestateRefusal b (length out)) r
+  -- the sizes
   pub sizes-told : (b : List ℕ) (z : Sizes) → CheckAnswer b (Answer.Accepted z)
       → (z .n ≡ componentCount b) × (z .m ≡ actionCount b) × (z .t ≡ transitionsAt b) × (z .s ≡ stepsAt b)
-  pub process-refuses : (b : List ℕ) (k i s : ℕ) → ProcessAnswer b (Answer.Refused k i s) → IsVerdict b (Verdict.refused k i) × (s ≡ 0)
-  pub figure-refuses : (b : List ℕ) (k i s : ℕ) → FigureAnswer b (Answer.Refused k i s) → IsVerdict b (Verdict.refused k i) × (s ≡ 0)
-  pub stuck-refuses : (b : List ℕ) (k i s : ℕ) → StuckAnswer b (Answer.Refused k i s) → IsVerdict b (Verdict.refused k i) × (s ≡ 0)
-  -- restating: the sheet's own refusal, or 13 for an accepted sheet whose restated bytes do not fit
-  pub restate-refuses : (b out after : List ℕ) (k i s : ℕ) → RestateAnswer b out (Answer.Refused k i s) after
-      → (s ≡ 0) × (IsVerdict b (Verdict.refused k i) ⊎ ((k ≡ 13) × (i ≡ 0) × Accepted b × (length out < length (restated b))))
-  -- an output of exactly the length serves
-  pub restate-serves : (b out after : List ℕ) (r : Answer) → RestateAnswer b out r after → Accepted b → length (restated b) ≤ length out
+  -- an output of exactly the length serves; the restated sheet then stands in front, and the bytes behind it keep their values
+  pub restate-serves : (b out left : List ℕ) (r : Answer) → RestateAnswer b out r left → Accepted b → length (restated b) ≤ length out
       → r ≡ Answer.Given (length (restated b))
-  pub refused-untouched : (b out after : List ℕ) (k i s : ℕ) → RestateAnswer b out (Answer.Refused k i s) after → after ≡ out
-  pub behind-kept : (b out after : List ℕ) (k : ℕ) → RestateAnswer b out (Answer.Given k) after → drop k after ≡ drop k out
+  pub restate-writes : (b out left : List ℕ) (k : ℕ) → RestateAnswer b out (Answer.Given k) left
+      → (k ≡ length (restated b)) × (left ≡ restated b ++ drop k out)
+  pub refused-untouched : (b out left : List ℕ) (k i s : ℕ) → RestateAnswer b out (Answer.Refused k i s) left → left ≡ out
 
--- 2: accepted exactly when the steps are a step execution as published, within the limits; the end sets pick out exactly the global states
--- in which interleaving executions with these actions can end.
+-- D2: accepted exactly when the steps are a step execution as published, within the limits; the end sets pick out exactly the global states
+-- in which interleaving executions with these actions can end, in whatever order w within the steps.
 pub record Demand2 : Type 1 where
-  pub accepted-exactly : (b : List ℕ) (r : Answer) → CheckAnswer b r
-      → SaysAccepted r ↔ (InLimits b × ((F : Determinized) × StepExecution (systemOf (tables b)) (map actionsOf (steps b)) F))
-  pub picked-exactly : (b : List ℕ) (r : EndSets) → EndSetsAnswer b r → SaysAccepted (r .answer)
-      → (w : List ℕ) → Linearization (map actionsOf (steps b)) w → (t : Global)
-      → Picked (systemOf (tables b)) (λ j q. member (getD (r .sets) j 0) q ≡ true) t ↔ Reaches (systemOf (tables b)) w t
+  pub check-accepts : (b : List ℕ) (r : Answer) → CheckAnswer b r → SaysAccepted r ↔ Accepted b
+  pub accepted-exactly : (b : List ℕ) → Accepted b ↔ (InLimits b × ((F : Determinized) × ExecutionTo b F))
+  pub picked-exactly : (b : List ℕ) (r : EndSets) → EndSetsAnswer b r → Accepted b → (w : List ℕ) → Linearization (actionSets b) w
+      → (t : Global) → Picked (systemIn b) (λ j q. member (getD (r .sets) j 0) q ≡ true) t ↔ Reaches (systemIn b) w t
 
--- 3: of the bytes that calls of restate wrote.
+-- D3, whole (C5): of the bytes that calls of restate wrote.
 pub record Demand3 : Type 1 where
-  -- the premise: an output at least that long
-  pub written : (b out after : List ℕ) (r : Answer) → RestateAnswer b out r after → Accepted b → length (restated b) ≤ length out
-      → Wrote b (take (length (restated b)) after)
+  pub written-accepted : (b w : List ℕ) → Wrote b w → Accepted b
   -- restated as the same bytes exactly when swaps of independent neighbours turn one action list into the other, over the same tables
-  pub same-bytes : (b c w v : List ℕ) → AreBytes b → AreBytes c → Wrote b w → Wrote c v → (w ≡ v) ↔ RelatedSheets b c
-  -- the restated sheet is an accepted process execution over the same tables, so related to its sheet
-  pub written-accepted : (b w : List ℕ) → AreBytes b → Wrote b w → (r : Answer) → CheckAnswer w r → SaysAccepted r
-  pub written-process : (b w : List ℕ) → AreBytes b → Wrote b w → (r : Answer) → ProcessAnswer w r → r ≡ Answer.Given 0
-  pub written-tables : (b w : List ℕ) → AreBytes b → Wrote b w → SameTables b w
-  pub written-related : (b w : List ℕ) → AreBytes b → Wrote b w → RelatedSheets b w
+  pub same-bytes : (b c w v : List ℕ) → Wrote b w → Wrote c v → (w ≡ v) ↔ RelatedSheets b c
+  -- what was written is accepted, over the same tables, related to its sheet, and a process execution
+  pub written-related : (b w : List ℕ) → Wrote b w → RelatedSheets b w
+  pub written-process : (b w : List ℕ) → Wrote b w → ProcessIn w
   -- with the same end set for every component
-  pub written-ends : (b w : List ℕ) → AreBytes b → Wrote b w → (r s : EndSets) → EndSetsAnswer b r → EndSetsAnswer w s → s .sets ≡ r .sets
-  -- no accepted sheet so related has fewer steps, counted in the bytes as written
-  pub fewest-steps : (b c w : List ℕ) → AreBytes b → AreBytes c → RelatedSheets b c → Wrote b w → stepCount w ≤ stepCount c
-  -- restating it again gives its own bytes
-  pub written-again : (b w v : List ℕ) → AreBytes b → Wrote b w → Wrote w v → v ≡ w
+  pub written-ends : (b w : List ℕ) → Wrote b w → (r s : EndSets) → EndSetsAnswer b r → EndSetsAnswer w s → s .sets ≡ r .sets
+  -- N10: no accepted sheet so related has fewer steps, counted in the bytes as written
+  pub fewest-steps : (b c w : List ℕ) → RelatedSheets b c → Wrote b w → stepCount w ≤ stepCount c
+  pub written-count : (b w : List ℕ) → Wrote b w → stepCount w ≡ length (restatedSteps b)
+  pub written-no-longer : (b w : List ℕ) → Wrote b w → length w ≤ length b
+  -- restating it again, into any output as long as it is, writes its own bytes
+  pub written-again : (b w out left : List ℕ) (r : Answer) → Wrote b w → RestateAnswer w out r left → length w ≤ length out
+      → (r ≡ Answer.Given (length w)) × (take (length w) left ≡ w)
+
+-- What the other calls answer for an accepted sheet.
+pub record AnswerDemand : Type 1 where
+  -- N7: the process check: yes exactly of process executions, else one past the first step that offends
+  pub process-exactly : (b : List ℕ) (r : Answer) → ProcessAnswer b r → (r ≡ Answer.Given 0) ↔ (Accepted b × ProcessIn b)
+  pub offends-first : (b : List ℕ) (r : Answer) (i : ℕ) → ProcessAnswer b r
+      → (r ≡ Answer.Given (i + 1)) ↔ (Accepted b × IsFirstOffence (dependent (tables b)) (map members (steps b)) i)
+  -- sixteen end sets, 0 for a component that the sheet does not have; all 0 for a refused sheet
+  pub ends-told : (b : List ℕ) (r : EndSets) → EndSetsAnswer b r → Accepted b → (j : ℕ) → j < 16
+      → getD (r .sets) j 0 ≡ cond (ltb j (componentCount b)) (endSet b j) 0
+  pub ends-refused : (b : List ℕ) (r : EndSets) (k i s : ℕ) → EndSetsAnswer b r → SheetRefusal b k i s → r .sets ≡ replicate 16 0
+  pub figure-told : (b : List ℕ) (r : Answer) → FigureAnswer b r → Accepted b → r ≡ Answer.Given (figure b)
+  -- 1 for stuck, else 0
+  pub stuck-told : (b : List ℕ) (r : Answer) → StuckAnswer b r → Accepted b → r ≡ Answer.Given (bit (stuck b))

@@ -1,4 +1,4 @@
--- What inner functions leave in the arrays that are lent to them.
+-- What inner functions answer, and leave in the arrays that are lent to them.
 -- Assumes nothing.
 use mathlib.Core.Path.{_≡_}
 use mathlib.Core.Bool.{cond}
@@ -9,14 +9,22 @@ use lib.ListN.{length, take, getD}
 use Rattle.sheet.specs.Layout.{componentCount, tables}
 use Rattle.sheet.specs.Verdict.{verdict, Accepted}
 use Rattle.dependence.specs.participants.Participants.{Participants}
+use Rattle.answers.specs.declared.Sizes.{Sizes}
 use Rattle.answers.specs.declared.Answer.{Answer}
+use Rattle.answers.specs.declared.Answer.the-variants.{Accepted as AcceptedAnswer, Given, Refused}
 use Rattle.answers.specs.Outcomes.{outcomeOf, readOutcome}
 use Rattle.answers.specs.EndSets.{endSet}
 use Rattle.answers.specs.Restated.{restatedSteps}
 
 -- the set with index j of a list where j is below n, else the empty set
-abbrev pub keptOf : List ℕ → ℕ → ℕ → ℕ
-keptOf l n j = cond (ltb j n) (getD l j 0) 0
+abbrev pub setBelow : List ℕ → ℕ → ℕ → ℕ
+setBelow l n j = cond (ltb j n) (getD l j 0) 0
+
+-- the refusal of an answer, or the sizes where it is none
+abbrev pub refusalOrSizes : Answer → Sizes → Answer
+refusalOrSizes (AcceptedAnswer y) z = AcceptedAnswer z
+refusalOrSizes (Given x) z = AcceptedAnswer z
+refusalOrSizes (Refused k i s) z = Refused k i s
 
 -- the answer on the sheet b, and the array afterwards: of an accepted sheet its first sets are the end sets
 pub record EndsLeft (b : List ℕ) (r : Answer) (held : List ℕ) : Type 0 where

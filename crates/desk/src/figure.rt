@@ -11,8 +11,8 @@ use crate::verdict;
 use answers::Answer;
 use answers::Sizes;
 
-// Ten times the actions over the steps, to the nearest whole number, halves up; 0 without steps.
-fn rounded(actions: u64, steps: u64) -> u64
+// A4: ten times the actions over the steps, rounded to a whole number, a half upwards; 0 without steps.
+fn rounded_quotient(actions: u64, steps: u64) -> u64
     requires { ⌜ (actions ≤ 1024) × (steps ≤ 1024) ⌝ }
     ensures { λ r. ⌜ r ≡ quotient actions steps ⌝ }
 {
@@ -27,9 +27,8 @@ pub fn figure_with(sheet: &[u8], sizes: Sizes, count: usize) -> u64
     requires { ⌜ AcceptedSheet (now sheet) sizes × (count ≤ 1024) × (count ≡ length (restatedSteps (now sheet))) ⌝ }
     ensures { λ r. ⌜ r ≡ figure (now (sheet .entry)) ⌝ }
 {
-    let s = sizes.s;
-    let end = sheet.len() - 10;
-    rounded(reading::actions_in(&sheet[s..end]), count as u64)
+    let section = reading::step_section(sheet, sizes.s);
+    rounded_quotient(reading::actions_in(section), count as u64)
 }
 
 // The figure of an accepted sheet.

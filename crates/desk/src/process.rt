@@ -7,6 +7,7 @@ ghost use Rattle.systems.specs.Independence.{dependent};
 ghost use Rattle.sheet.specs.Layout.{tables, steps};
 ghost use Rattle.desk.specs.AcceptedSheet.{AcceptedSheet};
 ghost use Rattle.desk.specs.Calls.{ProcessAnswer};
+use crate::alphabets;
 use crate::verdict;
 use answers::Answer;
 use answers::Sizes;
@@ -16,12 +17,10 @@ fn offence_at(sheet: &[u8], sizes: Sizes) -> u64
     requires { ⌜ AcceptedSheet (now sheet) sizes ⌝ }
     ensures { λ r. ⌜ r ≡ offending (firstOffence (dependent (tables (now (sheet .entry)))) (map members (steps (now (sheet .entry))))) ⌝ }
 {
-    let t = sizes.t;
-    let s = sizes.s;
-    let end = sheet.len() - 10;
     let mut alphabets = [0u64; 16];
-    reading::alphabets(&sheet[0..t], sizes.n, &mut alphabets);
-    dependence::process::first_offence(&sheet[s..end], &alphabets, sizes.n)
+    alphabets::alphabets_of(sheet, sizes, &mut alphabets);
+    let section = reading::step_section(sheet, sizes.s);
+    dependence::process::first_offence(section, &alphabets, sizes.n)
 }
 
 // The process check: 0 for a process execution, else one past the index of the first step that offends.

@@ -4,6 +4,7 @@ ghost use lib.ListN.{replicate};
 ghost use Rattle.desk.specs.AcceptedSheet.{AcceptedSheet};
 ghost use Rattle.desk.specs.Left.{ParticipantsLeft, PackedSteps};
 ghost use Rattle.desk.specs.Calls.{RestateAnswer};
+use crate::alphabets;
 use crate::verdict;
 use answers::Answer;
 use answers::Sizes;
@@ -15,9 +16,7 @@ fn pack_steps(sheet: &[u8], sizes: Sizes, participants: &[u64], packed: &mut [u6
     requires { ⌜ AcceptedSheet (now sheet) sizes × ParticipantsLeft (now sheet) (now participants) × (now packed ≡ replicate 1024 0) ⌝ }
     ensures { λ r. ⌜ PackedSteps (now (sheet .entry)) (now (packed .exit)) r ⌝ }
 {
-    let s = sizes.s;
-    let end = sheet.len() - 10;
-    normal_form::pack(&sheet[s..end], participants, packed)
+    normal_form::pack(reading::step_section(sheet, sizes.s), participants, packed)
 }
 
 // The same where the components of each action are still to be found.
@@ -25,9 +24,8 @@ pub fn pack_sheet(sheet: &[u8], sizes: Sizes, packed: &mut [u64]) -> usize
     requires { ⌜ AcceptedSheet (now sheet) sizes × (now packed ≡ replicate 1024 0) ⌝ }
     ensures { λ r. ⌜ PackedSteps (now (sheet .entry)) (now (packed .exit)) r ⌝ }
 {
-    let t = sizes.t;
     let mut alphabets = [0u64; 16];
-    reading::alphabets(&sheet[0..t], sizes.n, &mut alphabets);
+    alphabets::alphabets_of(sheet, sizes, &mut alphabets);
     let mut participants = [0u64; 64];
     participants::participants_of(&alphabets, sizes.n, &mut participants);
     pack_steps(sheet, sizes, &participants, packed)

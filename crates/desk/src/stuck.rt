@@ -1,9 +1,10 @@
-// Whether a sheet is stuck: no action is enabled in its end sets.
+// A5: whether a sheet is stuck: its end sets enable no action.
 ghost use mathlib.Core.Path.{_≡_};
 ghost use Rattle.sheet.specs.Verdict.{verdict};
 ghost use Rattle.answers.specs.Stuck.{stuck};
 ghost use Rattle.desk.specs.AcceptedSheet.{AcceptedSheet};
 ghost use Rattle.desk.specs.Calls.{endArrayBy, StuckAnswer};
+use crate::alphabets;
 use crate::verdict;
 use answers::Answer;
 use answers::Sizes;
@@ -14,10 +15,9 @@ pub fn stuck_at(sheet: &[u8], sizes: Sizes, sets: &[u64]) -> bool
     ensures { λ r. ⌜ r ≡ stuck (now (sheet .entry)) ⌝ }
 {
     let s = sizes.s;
-    let front = &sheet[..s];
     let mut alphabets = [0u64; 16];
-    reading::alphabets(front, sizes.n, &mut alphabets);
-    machine::stuck_from(front, sizes.n, sizes.m, &alphabets, sets)
+    alphabets::alphabets_of(sheet, sizes, &mut alphabets);
+    machine::stuck_from(&sheet[..s], sizes.n, sizes.m, &alphabets, sets)
 }
 
 // 1 for a stuck sheet, 0 for one that is not.

@@ -6,7 +6,7 @@ ghost use lib.ListN.{length, replicate};
 ghost use Rattle.sets.specs.Lists.{below};
 ghost use Rattle.reading.specs.Reading.{TrailerPassed};
 ghost use Rattle.desk.specs.Calls.{CheckAnswer, EndSetsAnswer};
-ghost use Rattle.desk.specs.Left.{keptOf, EndsLeft, ParticipantsLeft};
+ghost use Rattle.desk.specs.Left.{setBelow, refusalOrSizes, EndsLeft, ParticipantsLeft};
 use answers::Answer;
 use answers::Sizes;
 
@@ -14,6 +14,25 @@ use answers::Sizes;
 pub struct EndSets {
     pub answer: Answer,
     pub sets: [u64; 16],
+}
+
+// The refusal of an answer, or the sizes. It is taken apart and put together: copied as a whole, an answer just written is waited for.
+fn refusal_or_sizes(answer: Answer, sizes: Sizes) -> Answer
+    ensures { λ r. ⌜ r ≡ refusalOrSizes answer sizes ⌝ }
+{
+    let Answer::Refused {
+        number,
+        index,
+        sheet,
+    } = answer
+    else {
+        return Answer::Accepted(sizes);
+    };
+    Answer::Refused {
+        number,
+        index,
+        sheet,
+    }
 }
 
 // Refusals 5 to 12 of a sheet whose trailer passed, or its sizes. Of an accepted sheet the first sets held are the end sets of its
@@ -33,29 +52,16 @@ pub fn judge_tables(
         return read;
     };
     let s = sizes.s;
-    let end = sheet.len() - 10;
     let ran = machine::run_from_start(
         &sheet[..s],
-        &sheet[s..end],
+        reading::step_section(sheet, s),
         sizes.n,
         sizes.m,
         &alphabets,
         participants,
         held,
     );
-    let Answer::Refused {
-        number,
-        index,
-        sheet: of,
-    } = ran
-    else {
-        return Answer::Accepted(sizes);
-    };
-    Answer::Refused {
-        number,
-        index,
-        sheet: of,
-    }
+    refusal_or_sizes(ran, sizes)
 }
 
 // The verdict on a sheet. Of an accepted sheet the first sets held are the end sets of its components. The sheet is handed on as a part,
@@ -69,7 +75,10 @@ fn judge(sheet: &[u8], held: &mut [u64]) -> Answer
         return read;
     };
     let mut participants = [0u64; 64];
-    judge_tables(&sheet[0..], sizes, &mut participants, held)
+    refusal_or_sizes(
+        judge_tables(&sheet[0..], sizes, &mut participants, held),
+        sizes,
+    )
 }
 
 // The verdict on a sheet: accepted with its sizes, or refused with number and step index.
@@ -81,9 +90,9 @@ pub fn check(sheet: &[u8]) -> Answer
 }
 
 // The set with index j where j is below n, else the empty set.
-fn kept(held: &[u64], n: usize, j: usize) -> u64
+fn end_set_at(held: &[u64], n: usize, j: usize) -> u64
     requires { ⌜ n ≤ length (now held) ⌝ }
-    ensures { λ r. ⌜ r ≡ keptOf (now (held .entry)) n j ⌝ }
+    ensures { λ r. ⌜ r ≡ setBelow (now (held .entry)) n j ⌝ }
 {
     if j < n {
         return held[j];
@@ -94,12 +103,12 @@ fn kept(held: &[u64], n: usize, j: usize) -> u64
 // The first n sets, and 0 for the others.
 fn first_sets(held: &[u64], n: usize) -> [u64; 16]
     requires { ⌜ n ≤ length (now held) ⌝ }
-    ensures { λ r. ⌜ r ≡ map (keptOf (now (held .entry)) n) (below 16) ⌝ }
+    ensures { λ r. ⌜ r ≡ map (setBelow (now (held .entry)) n) (below 16) ⌝ }
 {
     let mut sets = [0u64; 16];
     let mut j = 0;
     while j < 16 {
-        sets[j] = kept(held, n, j);
+        sets[j] = end_set_at(held, n, j);
         j += 1;
     }
     sets

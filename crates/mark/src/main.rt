@@ -1,14 +1,50 @@
-// Reads one sheet from standard input, to its end, and prints the result. The buffer is longer than any sheet, so longer input is
-// refused for its length whatever follows; all that is printed is what one call of the library gave.
+// Reads one sheet from standard input, to its end, and writes its report to standard output. Where it cannot read or write, it says so in
+// one line on standard error, and there is no answer.
+//
+// The buffer is longer than any sheet, so longer input is refused for its length whatever follows.
+mod stream;
+
+ghost use mathlib.Core.Path.{_≡_};
+ghost use Prim.Native.Nat.{_≤_};
+ghost use lib.ListN.{length, take};
+ghost use Rattle.io.specs.Counts.{Counts};
+ghost use Rattle.answers.specs.Report.{report};
 use oatmist::Answer;
+use stream::Input;
+
+// Puts what is to be written into the front of the text: the report of the first n bytes of the buffer, which are what was read. Answers
+// how many bytes that is.
+fn put_report(n: usize, sheet: &[u8], text: &mut [u8]) -> usize
+    requires { ⌜ (n ≤ length (now sheet)) × (16384 ≤ length (now text)) ⌝ }
+    ensures { λ r. ⌜ Counts r (now (text .exit)) ⌝ }
+    ensures { λ r. ⌜ take r (now (text .exit)) ≡ report (take n (now (sheet .entry))) ⌝ }
+{
+    let answer = oatmist::report(&sheet[..n], text);
+    let Answer::Given(size) = answer else {
+        return 0;
+    };
+    size as usize
+}
+
+// Tells that the whole answer was written, on descriptor 3, to a caller that asked for it by an argument.
+fn tell_written() {
+    if os::arg_count() > 1 {
+        libc::write(3, b"written\n");
+    }
+}
 
 fn main() {
     let mut sheet = io::large_buffer();
-    let n = io::read_full(0, &mut sheet);
-    let mut text = io::large_buffer();
-    let answer = oatmist::report(&sheet[..n], &mut text);
-    let Answer::Given(size) = answer else {
+    let input = stream::read_to_end(0, &mut sheet);
+    let Input::Whole(n) = input else {
+        os::fail(b"mark: standard input");
         return;
     };
-    io::write_all(1, &text[..size as usize]);
+    let mut text = io::large_buffer();
+    let size = put_report(n, &sheet, &mut text);
+    if stream::write_to_end(1, &text[..size]) < 0 {
+        os::fail(b"mark: standard output");
+        return;
+    }
+    tell_written();
 }

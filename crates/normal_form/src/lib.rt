@@ -1,7 +1,7 @@
 // Packing an execution's actions into the steps of its normal form, in one pass: a table of the last step of each component gives
 // each action its level.
 mod levels;
-pub mod placing;
+mod placing;
 
 ghost use mathlib.Core.Path.{_≡_};
 ghost use Prim.Native.Nat.{_≤_};

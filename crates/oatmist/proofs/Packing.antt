@@ -18,7 +18,7 @@ use Rattle.sheet.proofs.RoundTrip.{steps-length}
 use Rattle.sheet.proofs.Verdicts.{verdict-first, verdict-number}
 use Rattle.answers.specs.declared.Answer.{Answer}
 use Rattle.answers.specs.Outcomes.{Outcome, given, values, single, bit, outcomeOf, onSheet, after}
-use Rattle.answers.specs.LentOutput.{unlessShort, fitting}
+use Rattle.answers.specs.LentOutput.{unlessShort, lengthOr13}
 use Rattle.answers.specs.ProcessCheck.{processCheck}
 use Rattle.answers.specs.Restated.{restatedSteps, restated}
 use Rattle.answers.specs.Restating.{restating}
@@ -27,7 +27,7 @@ use Rattle.answers.specs.Stuck.{stuck, stuckOutcome}
 use Rattle.answers.specs.Report.{report, reporting}
 use Rattle.answers.specs.SameWork.{sameWork}
 use Rattle.answers.specs.Leaner.{winner}
-use Rattle.answers.specs.TwoSheets.{tablesDiffer, unlessDiffer, ofPair}
+use Rattle.answers.specs.TwoSheets.{tablesDiffer, unlessDiffer, ofTwo}
 use Rattle.oatmist.specs.Convention.{Packable, CAnswer}
 
 length-first : (b : List ℕ) → ((k : ℕ) → refusal b k ≡ false) → lengthWrong b ≡ false
@@ -64,9 +64,9 @@ module _ {A : Type 0} (f : A → List ℕ) where
   pub packable-after : (b : List ℕ) (x : A) → Packable (values f (after (verdict b) (given x)))
   packable-after b x = packable-on 0 (omega arith) b (given x) tt
 
-  pub packable-pair : (b c : List ℕ) (x : A) → Packable (values f (ofPair b c x))
-  unfolding ofPair
-  packable-pair b c x =
+  pub packable-two : (b c : List ℕ) (x : A) → Packable (values f (ofTwo b c x))
+  unfolding ofTwo
+  packable-two b c x =
       packable-on 0 (omega arith) b (onSheet 1 (verdict c) (unlessDiffer (tablesDiffer b c) x))
       (packable-on 1 (omega arith) c (unlessDiffer (tablesDiffer b c) x) (differ (tablesDiffer b c)))
     where
@@ -74,8 +74,8 @@ module _ {A : Type 0} (f : A → List ℕ) where
       differ true = (omega arith, omega arith, omega arith, omega arith)
       differ false = tt
 
-pub packable-fitting : (f : ℕ → List ℕ) (text : List ℕ) (size : ℕ) → Packable (values f (fitting text size))
-unfolding fitting
+pub packable-fitting : (f : ℕ → List ℕ) (text : List ℕ) (size : ℕ) → Packable (values f (lengthOr13 text size))
+unfolding lengthOr13
 packable-fitting f text size = go (ltb size (length text))
   where
     go : (t : Bool) → Packable (values f (unlessShort t (length text)))
@@ -97,7 +97,7 @@ packable-process b = packable-after (λ o. single (offending o)) b (firstOffence
 
 pub packable-restate : (b : List ℕ) (size : ℕ) → Packable (values single (restating b size))
 unfolding restating
-packable-restate b size = packable-on single 0 (omega arith) b (fitting (restated b) size) (packable-fitting single (restated b) size)
+packable-restate b size = packable-on single 0 (omega arith) b (lengthOr13 (restated b) size) (packable-fitting single (restated b) size)
 
 pub packable-figure : (b : List ℕ) → Packable (values single (figureOutcome b))
 unfolding figureOutcome
@@ -113,11 +113,11 @@ packable-report b size = packable-fitting single (report b) size
 
 pub packable-work : (b c : List ℕ) → Packable (values (λ t. single (bit t)) (sameWork b c))
 unfolding sameWork
-packable-work b c = packable-pair (λ t. single (bit t)) b c (sameBytes (restatedSteps b) (restatedSteps c))
+packable-work b c = packable-two (λ t. single (bit t)) b c (sameBytes (restatedSteps b) (restatedSteps c))
 
 pub packable-winner : (b c : List ℕ) → Packable (values single (winner b c))
 unfolding winner
-packable-winner b c = packable-pair single b c (cond (ltb (length (restatedSteps c)) (length (restatedSteps b))) 1 0)
+packable-winner b c = packable-two single b c (cond (ltb (length (restatedSteps c)) (length (restatedSteps b))) 1 0)
 
 -- ---- an answer told as an equal outcome
 

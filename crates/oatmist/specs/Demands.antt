@@ -1,24 +1,61 @@
--- What the calls for C return can be read back: the parts of a refusal from its number, and from 0 alone that the call answered. The outcome of
--- every call is `Packable` (`proofs/Packing.antt`), so this holds of each of them.
+-- D1 and what the calls answer, for C, of whatever a call's promise holds of (specs/Calls): a caller that reads the returned number with the
+-- macros of include/oatmist.h, and the array that it lent, is told what the call from Rattle answers.
 -- Assumes nothing.
 use mathlib.Core.Path.{_≡_}
 use mathlib.Core.Logic.{_↔_}
-use mathlib.Core.List.{List}
-use Prim.Native.Nat.{ℕ, _/_, _%_, _<_}
-use Rattle.answers.specs.Outcomes.{Outcome, given, refused}
-use Rattle.oatmist.specs.Convention.{refusalWord, Packable, CAnswer}
+use mathlib.Core.List.{List, [], _∷_}
+use Prim.Native.Nat.{ℕ, _/_, _%_, _<_, _≤_}
+use lib.ListN.{length, getD}
+use Rattle.sheet.specs.Layout.{componentCount, actionCount, transitionsAt, stepsAt}
+use Rattle.answers.specs.declared.Answer.{Answer}
+use Rattle.answers.specs.FirstRefusal.{Refusal, SheetRefusal, RestateRefusal, ReportRefusal, TwoSheetRefusal}
+use Rattle.desk.specs.declared.verdict.EndSets.{EndSets}
+use Rattle.desk.specs.Calls.{EndSetsAnswer, ProcessAnswer, RestateAnswer, FigureAnswer, StuckAnswer}
+use Rattle.comparing.specs.Calls.{SameWorkAnswer, WinnerAnswer, LeanerPart}
+use Rattle.report.specs.Calls.{ReportAnswer}
+use Rattle.oatmist.specs.Calls.{CheckForC, EndSetsForC, ProcessForC, FigureForC, StuckForC, RestateForC, ReportForC, SameWorkForC, WinnerForC, LeanerForC}
 
--- the call gave what was asked for
-abbrev pub IsGiven : Outcome (List ℕ) → Type 0
-IsGiven (given xs) = Unit {0}
-IsGiven (refused k i s) = ⊥
+-- what is returned is not 0, and OATMIST_REFUSAL, OATMIST_STEP and OATMIST_SHEET read this refusal from it
+abbrev pub ReadsAs : ℕ → Refusal
+ReadsAs r k i s = (¬ (r ≡ 0)) × (r % 256 ≡ k) × (r / 65536 ≡ i) × (r / 256 % 256 ≡ s)
 
-pub record ConventionDemand : Type 0 where
-  -- the macros of the header: the refusal's number, its sheet and its step index
-  pub number-read : (k i s : ℕ) → k < 256 → s < 256 → refusalWord k i s % 256 ≡ k
-  pub sheet-read : (k i s : ℕ) → k < 256 → s < 256 → refusalWord k i s / 256 % 256 ≡ s
-  pub step-read : (k i s : ℕ) → k < 256 → s < 256 → refusalWord k i s / 65536 ≡ i
-  -- 0 is returned exactly where the call answered
-  pub zero-given : (o : Outcome (List ℕ)) → Packable o → (r : ℕ) (old new : List ℕ) → CAnswer o r old new → (r ≡ 0) ↔ IsGiven o
+-- the values stand at the front of the array, as many as there is room for; its other entries are as they were
+pub record InFront (xs old new : List ℕ) : Type 0 where
+  pub size : length new ≡ length old
+  pub front : (j : ℕ) → j < length xs → j < length old → getD new j 0 ≡ getD xs j 0
+  pub behind : (j : ℕ) → length xs ≤ j → getD new j 0 ≡ getD old j 0
+
+-- C is told the refusal that is due, and then the array is as it came; or 0 and the values that are due
+pub record ToldToC (P : Refusal) (Values : List ℕ → Type 0) (r : ℕ) (old new : List ℕ) : Type 0 where
+  pub zero-exactly : (r ≡ 0) ↔ ((k i s : ℕ) → ¬ P k i s)
+  pub refused-exactly : (k i s : ℕ) → ReadsAs r k i s ↔ P k i s
+  pub refused-untouched : ¬ (r ≡ 0) → new ≡ old
+  pub answered : r ≡ 0 → (xs : List ℕ) × Values xs × InFront xs old new
+
+-- the one number that a call from Rattle gives, where P is its promise
+abbrev pub Number : (Answer → Type 0) → List ℕ → Type 0
+Number P xs = (x : ℕ) × P (Answer.Given x) × (xs ≡ x ∷ [])
+
+pub record DemandsForC : Type 0 where
+  -- n, m, T and S, in this order
+  pub check : (b old new : List ℕ) (r : ℕ) → CheckForC b r old new
+      → ToldToC (SheetRefusal b) (λ xs. xs ≡ componentCount b ∷ actionCount b ∷ transitionsAt b ∷ stepsAt b ∷ []) r old new
+  -- the sixteen sets
+  pub end-sets : (b old new : List ℕ) (r : ℕ) → EndSetsForC b r old new
+      → ToldToC (SheetRefusal b) (λ xs. (e : EndSets) × EndSetsAnswer b e × (xs ≡ e .sets)) r old new
+  pub process : (b old new : List ℕ) (r : ℕ) → ProcessForC b r old new → ToldToC (SheetRefusal b) (Number (ProcessAnswer b)) r old new
+  pub figure : (b old new : List ℕ) (r : ℕ) → FigureForC b r old new → ToldToC (SheetRefusal b) (Number (FigureAnswer b)) r old new
+  pub stuck : (b old new : List ℕ) (r : ℕ) → StuckForC b r old new → ToldToC (SheetRefusal b) (Number (StuckAnswer b)) r old new
+  pub same-work : (b c old new : List ℕ) (r : ℕ) → SameWorkForC b c r old new → ToldToC (TwoSheetRefusal b c) (Number (SameWorkAnswer b c)) r old new
+  pub winner : (b c old new : List ℕ) (r : ℕ) → WinnerForC b c r old new → ToldToC (TwoSheetRefusal b c) (Number (WinnerAnswer b c)) r old new
+  -- restating and the report: also what the output is afterwards
+  pub restate : (b out left old new : List ℕ) (r : ℕ) → RestateForC b out r left old new
+      → ToldToC (RestateRefusal b (length out)) (Number (λ a. RestateAnswer b out a left)) r old new
+  pub report : (b out left old new : List ℕ) (r : ℕ) → ReportForC b out r left old new
+      → ToldToC (ReportRefusal b (length out)) (Number (λ a. ReportAnswer b out a left)) r old new
+  pub restate-untouched : (b out left old new : List ℕ) (r : ℕ) → RestateForC b out r left old new → ¬ (r ≡ 0) → left ≡ out
+  pub report-untouched : (b out left old new : List ℕ) (r : ℕ) → ReportForC b out r left old new → ¬ (r ≡ 0) → left ≡ out
+  -- the part of the leaner sheet
+  pub leaner : (b c part : List ℕ) → LeanerForC b c part → LeanerPart b c part
   -- a worked number: refusal 12 of the second sheet at the step with index 1023
-  pub worked : refusalWord 12 1023 1 ≡ 67043596
+  pub worked : ReadsAs 67043596 12 1023 1

@@ -4,7 +4,7 @@ ghost use Prim.Native.Nat.{min, _<_, _^_};
 ghost use lib.ListN.{set};
 ghost use Rattle.answers.specs.declared.Answer.the-variants.{Accepted};
 ghost use Rattle.answers.specs.Outcomes.{outcomeOf};
-ghost use Rattle.oatmist.specs.Convention.{filled, refusalWord, Packable, CAnswer};
+ghost use Rattle.oatmist.specs.Convention.{withValues, refusalWord, Packable, CAnswer};
 use answers::Answer;
 use answers::Sizes;
 
@@ -20,7 +20,7 @@ fn smaller(a: usize, b: usize) -> usize
 
 // Copies as many of the values as there is room for.
 pub fn fill(values: &[u64], out: &mut [u64])
-    ensures { λ _. ⌜ now (out .exit) ≡ filled (now (values .entry)) (now (out .entry)) ⌝ }
+    ensures { λ _. ⌜ now (out .exit) ≡ withValues (now (values .entry)) (now (out .entry)) ⌝ }
 {
     let count = smaller(values.len(), out.len());
     let mut k = 0;

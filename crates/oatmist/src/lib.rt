@@ -2,20 +2,7 @@
 // a length, and the values of an answer go to an array that the caller lends (include/oatmist.h).
 mod convention;
 
-ghost use mathlib.Core.Path.{_≡_};
-ghost use lib.ListN.{length};
-ghost use Rattle.traces.specs.Offences.{offending};
-ghost use Rattle.sheet.specs.Verdict.{verdict};
-ghost use Rattle.answers.specs.Outcomes.{values, single, bit, readOutcome};
-ghost use Rattle.answers.specs.EndSets.{endsOutcome};
-ghost use Rattle.answers.specs.ProcessCheck.{processCheck};
-ghost use Rattle.answers.specs.Restating.{restating, outputAfter};
-ghost use Rattle.answers.specs.SameWork.{sameWork};
-ghost use Rattle.answers.specs.Leaner.{winner, leaner};
-ghost use Rattle.answers.specs.Figure.{figureOutcome};
-ghost use Rattle.answers.specs.Stuck.{stuckOutcome};
-ghost use Rattle.answers.specs.Report.{reporting, reportOutput};
-ghost use Rattle.oatmist.specs.Convention.{CAnswer};
+ghost use Rattle.oatmist.specs.Calls.{CheckForC, EndSetsForC, ProcessForC, FigureForC, StuckForC, RestateForC, ReportForC, SameWorkForC, WinnerForC, LeanerForC};
 pub use answers::Answer;
 pub use answers::Sizes;
 pub use comparing::leaner;
@@ -32,7 +19,7 @@ pub use report::report;
 // The verdict: n, m, T and S of an accepted sheet.
 #[no_mangle]
 pub extern "C" fn oatmist_check(sheet: &[u8], answer: &mut [u64]) -> u64
-    ensures { λ r. ⌜ CAnswer (readOutcome (now (sheet .entry)) (verdict (now (sheet .entry)))) r (now (answer .entry)) (now (answer .exit)) ⌝ }
+    ensures { λ r. ⌜ CheckForC (now (sheet .entry)) r (now (answer .entry)) (now (answer .exit)) ⌝ }
 {
     convention::hand(check(sheet), answer)
 }
@@ -40,7 +27,7 @@ pub extern "C" fn oatmist_check(sheet: &[u8], answer: &mut [u64]) -> u64
 // The end sets of sixteen components, 0 for those that the sheet does not have.
 #[no_mangle]
 pub extern "C" fn oatmist_end_sets(sheet: &[u8], ends: &mut [u64]) -> u64
-    ensures { λ r. ⌜ CAnswer (endsOutcome (now (sheet .entry))) r (now (ends .entry)) (now (ends .exit)) ⌝ }
+    ensures { λ r. ⌜ EndSetsForC (now (sheet .entry)) r (now (ends .entry)) (now (ends .exit)) ⌝ }
 {
     let ended = end_sets(sheet);
     let answer = ended.answer;
@@ -55,7 +42,7 @@ pub extern "C" fn oatmist_end_sets(sheet: &[u8], ends: &mut [u64]) -> u64
 // The process check: 0 for yes, or one past the index of the first step that offends.
 #[no_mangle]
 pub extern "C" fn oatmist_process(sheet: &[u8], answer: &mut [u64]) -> u64
-    ensures { λ r. ⌜ CAnswer (values (λ o. single (offending o)) (processCheck (now (sheet .entry)))) r (now (answer .entry)) (now (answer .exit)) ⌝ }
+    ensures { λ r. ⌜ ProcessForC (now (sheet .entry)) r (now (answer .entry)) (now (answer .exit)) ⌝ }
 {
     convention::hand(process_check(sheet), answer)
 }
@@ -63,8 +50,7 @@ pub extern "C" fn oatmist_process(sheet: &[u8], answer: &mut [u64]) -> u64
 // Restating: how many bytes were written to `out`.
 #[no_mangle]
 pub extern "C" fn oatmist_restate(sheet: &[u8], out: &mut [u8], answer: &mut [u64]) -> u64
-    ensures { λ r. ⌜ (now (out .exit) ≡ outputAfter (now (sheet .entry)) (now (out .entry)))
-        × CAnswer (values single (restating (now (sheet .entry)) (length (now (out .entry))))) r (now (answer .entry)) (now (answer .exit)) ⌝ }
+    ensures { λ r. ⌜ RestateForC (now (sheet .entry)) (now (out .entry)) r (now (out .exit)) (now (answer .entry)) (now (answer .exit)) ⌝ }
 {
     convention::hand(restate(sheet, out), answer)
 }
@@ -72,7 +58,7 @@ pub extern "C" fn oatmist_restate(sheet: &[u8], out: &mut [u8], answer: &mut [u6
 // Same work: 1 for yes, 0 for no.
 #[no_mangle]
 pub extern "C" fn oatmist_same_work(first: &[u8], second: &[u8], answer: &mut [u64]) -> u64
-    ensures { λ r. ⌜ CAnswer (values (λ t. single (bit t)) (sameWork (now (first .entry)) (now (second .entry)))) r (now (answer .entry)) (now (answer .exit)) ⌝ }
+    ensures { λ r. ⌜ SameWorkForC (now (first .entry)) (now (second .entry)) r (now (answer .entry)) (now (answer .exit)) ⌝ }
 {
     convention::hand(same_work(first, second), answer)
 }
@@ -80,7 +66,7 @@ pub extern "C" fn oatmist_same_work(first: &[u8], second: &[u8], answer: &mut [u
 // Which sheet is leaner: 0 for the first, 1 for the second.
 #[no_mangle]
 pub extern "C" fn oatmist_winner(first: &[u8], second: &[u8], answer: &mut [u64]) -> u64
-    ensures { λ r. ⌜ CAnswer (values single (winner (now (first .entry)) (now (second .entry)))) r (now (answer .entry)) (now (answer .exit)) ⌝ }
+    ensures { λ r. ⌜ WinnerForC (now (first .entry)) (now (second .entry)) r (now (answer .entry)) (now (answer .exit)) ⌝ }
 {
     convention::hand(winner(first, second), answer)
 }
@@ -88,7 +74,7 @@ pub extern "C" fn oatmist_winner(first: &[u8], second: &[u8], answer: &mut [u64]
 // The leaner answer: `part` becomes the step section of the leaner sheet, in the caller's own bytes; an empty part for a refused pair.
 #[no_mangle]
 pub extern "C" fn oatmist_leaner<'a>(first: &'a [u8], second: &'a [u8], part: &mut &'a [u8])
-    ensures { λ _. ⌜ now (now (part .exit)) ≡ leaner (now (first .entry)) (now (second .entry)) ⌝ }
+    ensures { λ _. ⌜ LeanerForC (now (first .entry)) (now (second .entry)) (now (now (part .exit))) ⌝ }
 {
     *part = leaner(first, second);
 }
@@ -96,15 +82,15 @@ pub extern "C" fn oatmist_leaner<'a>(first: &'a [u8], second: &'a [u8], part: &m
 // The concurrency figure.
 #[no_mangle]
 pub extern "C" fn oatmist_figure(sheet: &[u8], answer: &mut [u64]) -> u64
-    ensures { λ r. ⌜ CAnswer (values single (figureOutcome (now (sheet .entry)))) r (now (answer .entry)) (now (answer .exit)) ⌝ }
+    ensures { λ r. ⌜ FigureForC (now (sheet .entry)) r (now (answer .entry)) (now (answer .exit)) ⌝ }
 {
     convention::hand(figure_of(sheet), answer)
 }
 
-// Stuck: 1 where no action is enabled in the end sets, else 0.
+// A5: stuck: 1 where the end sets enable no action, else 0.
 #[no_mangle]
 pub extern "C" fn oatmist_stuck(sheet: &[u8], answer: &mut [u64]) -> u64
-    ensures { λ r. ⌜ CAnswer (values (λ t. single (bit t)) (stuckOutcome (now (sheet .entry)))) r (now (answer .entry)) (now (answer .exit)) ⌝ }
+    ensures { λ r. ⌜ StuckForC (now (sheet .entry)) r (now (answer .entry)) (now (answer .exit)) ⌝ }
 {
     convention::hand(is_stuck(sheet), answer)
 }
@@ -112,8 +98,7 @@ pub extern "C" fn oatmist_stuck(sheet: &[u8], answer: &mut [u64]) -> u64
 // The text that the program prints: it stands in front of `out`, and its length is told.
 #[no_mangle]
 pub extern "C" fn oatmist_report(sheet: &[u8], out: &mut [u8], answer: &mut [u64]) -> u64
-    ensures { λ r. ⌜ (now (out .exit) ≡ reportOutput (now (sheet .entry)) (now (out .entry)))
-        × CAnswer (values single (reporting (now (sheet .entry)) (length (now (out .entry))))) r (now (answer .entry)) (now (answer .exit)) ⌝ }
+    ensures { λ r. ⌜ ReportForC (now (sheet .entry)) (now (out .entry)) r (now (out .exit)) (now (answer .entry)) (now (answer .exit)) ⌝ }
 {
     convention::hand(report(sheet, out), answer)
 }

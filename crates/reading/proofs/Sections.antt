@@ -8,7 +8,7 @@ use Prim.Native.Nat.{ℕ, _+_, _-_, _*_, _/_, _≤_, _<_}
 use native.Mathlib.Omega.{arith}
 use lib.Dec.{leb, ltb}
 use lib.ListN.{length, getD, take, drop, length-take, length-drop}
-use Rattle.sets.specs.Lists.{some, below}
+use Rattle.sets.specs.Lists.{anyOf, below}
 use Rattle.sets.specs.Bits.{member}
 use Rattle.sets.proofs.Bools.{true-or-false, leb-false}
 use Rattle.sets.proofs.Lists.{mem-below}
@@ -26,12 +26,12 @@ use Rattle.reading.proofs.Passing.{TrailerRead}
 
 -- ---- two tests that agree
 
-some-same : {A : Type 0} (p q : A → Bool) (l : List A) → ((x : A) → List·Memᴰ x l → p x ≡ q x) → some p l ≡ some q l
-some-same p q [] h = refl
-some-same p q (x ∷ l) h = ap₂ _||_ (h x (List·Memᴰ·head refl)) (some-same p q l (λ y m. h y (List·Memᴰ·tail m)))
+anyOf-same : {A : Type 0} (p q : A → Bool) (l : List A) → ((x : A) → List·Memᴰ x l → p x ≡ q x) → anyOf p l ≡ anyOf q l
+anyOf-same p q [] h = refl
+anyOf-same p q (x ∷ l) h = ap₂ _||_ (h x (List·Memᴰ·head refl)) (anyOf-same p q l (λ y m. h y (List·Memᴰ·tail m)))
 
-same-below : (p q : ℕ → Bool) (n : ℕ) → ((i : ℕ) → i < n → p i ≡ q i) → some p (below n) ≡ some q (below n)
-same-below p q n h = some-same p q (below n) (λ i m. h i (mem-below n i .0 m))
+same-below : (p q : ℕ → Bool) (n : ℕ) → ((i : ℕ) → i < n → p i ≡ q i) → anyOf p (below n) ≡ anyOf q (below n)
+same-below p q n h = anyOf-same p q (below n) (λ i m. h i (mem-below n i .0 m))
 
 -- ---- a transition, in two tables with the same components below their number
 
@@ -121,7 +121,7 @@ module _ {b : List ℕ} {z : Sizes} (r : TrailerRead b z) where
   -- ---- the refusals of the sheet, by what was answered of the parts
 
   -- 5
-  pub records-told : {x : Bool} → x ≡ some (recordWrong (recordsPart b z) (z .m)) (below (z .n)) → recordsWrong b ≡ x
+  pub records-told : {x : Bool} → x ≡ anyOf (recordWrong (recordsPart b z) (z .m)) (below (z .n)) → recordsWrong b ≡ x
   unfolding recordsWrong
   records-told e =
       rw (← r .n-read, ← r .m-read) (sym (e ∙ same-below (recordWrong (recordsPart b z) (z .m)) (recordWrong (front b) (z .m)) (z .n) record-same))
@@ -133,14 +133,14 @@ module _ {b : List ℕ} {z : Sizes} (r : TrailerRead b z) where
       rw (← r .n-read, ← r .m-read)
       (sym
       (e
-      ∙ same-below (λ a. not (some (λ j. member (getD l j 0) a) (below (z .n)))) _ (z .m)
+      ∙ same-below (λ a. not (anyOf (λ j. member (getD l j 0) a) (below (z .n)))) _ (z .m)
       (λ a m. ap not
       (same-below (λ j. member (getD l j 0) a) _ (z .n) (λ j k. ap (λ (x : ℕ). member x a) (h .each j k ∙ alphabet-same j k))))))
 
   -- 7
   pub transitions-told : {x : Bool}
       → x
-      ≡ some (transitionWrong (sectionTables (recordsPart b z) (transitionsPart b z) (z .n) 0))
+      ≡ anyOf (transitionWrong (sectionTables (recordsPart b z) (transitionsPart b z) (z .n) 0))
       (map transitionOf (parts 4 (length (transitionsPart b z) / 4) (transitionsPart b z)))
       → transitionsWrong b ≡ x
   unfolding transitionsWrong tables tablesOf
@@ -148,8 +148,8 @@ module _ {b : List ℕ} {z : Sizes} (r : TrailerRead b z) where
       let T = sectionTables (recordsPart b z) (transitionsPart b z) (z .n) 0 in
       sym
       (e
-      ∙ ap (λ (l : List (List ℕ)). some (transitionWrong T) (map transitionOf l)) transition-bytes
-      ∙ some-same (transitionWrong T) (transitionWrong (tables b)) (tables b .transitions)
+      ∙ ap (λ (l : List (List ℕ)). anyOf (transitionWrong T) (map transitionOf l)) transition-bytes
+      ∙ anyOf-same (transitionWrong T) (transitionWrong (tables b)) (tables b .transitions)
       (λ t m. wrong-same T (tables b) t (r .n-read) (λ j l. (states-same j l, alphabet-same j l))))
 
   -- 8

@@ -4,7 +4,7 @@ mod trailer;
 mod transitions;
 
 ghost use mathlib.Core.Path.{_≡_};
-ghost use Prim.Native.Nat.{ℕ, _*_, _≤_};
+ghost use Prim.Native.Nat.{ℕ, _+_, _*_, _≤_};
 ghost use lib.ListN.{length, take};
 ghost use Rattle.systems.specs.Checking.{flat};
 ghost use Rattle.sheet.specs.Layout.{tablesOf};
@@ -12,7 +12,7 @@ ghost use Rattle.sheet.specs.Verdict.{accepted, trailerVerdict, tablesVerdict};
 ghost use Rattle.sheet.specs.Sections.{stepsIn, Alphabets};
 ghost use Rattle.answers.specs.declared.Answer.the-variants.{Accepted, Refused};
 ghost use Rattle.answers.specs.Outcomes.{outcomeOf, readOutcome};
-ghost use Rattle.reading.specs.Reading.{TrailerPassed};
+ghost use Rattle.reading.specs.Reading.{TrailerPassed, upToTrailer};
 use answers::Answer;
 use answers::Sizes;
 
@@ -48,7 +48,7 @@ pub fn read_trailer(sheet: &[u8]) -> Answer
     if trailer::length_wrong(sheet) {
         return refuse(1);
     }
-    if trailer::unmarked(sheet) {
+    if trailer::mark_wrong(sheet) {
         return refuse(2);
     }
     if trailer::counts_wrong(sheet) {
@@ -70,6 +70,14 @@ pub fn alphabets(records: &[u8], n: usize, found: &mut [u64])
         found[j] = numbers::number8(records, 16 * j + 8);
         j += 1;
     }
+}
+
+// The step section of a sheet whose steps begin at `s`: the bytes from there up to the trailer.
+pub fn step_section(sheet: &[u8], s: usize) -> &[u8]
+    requires { ⌜ s + 10 ≤ length (now sheet) ⌝ }
+    ensures { λ r. ⌜ now r ≡ upToTrailer s (now (sheet .entry)) ⌝ }
+{
+    &sheet[s..sheet.len() - 10]
 }
 
 // How many actions the steps of the section have together.
@@ -96,7 +104,6 @@ pub fn read_tables(sheet: &[u8], sizes: Sizes, found: &mut [u64]) -> Answer
     let n = sizes.n;
     let t = sizes.t;
     let s = sizes.s;
-    let end = sheet.len() - 10;
     let records = &sheet[0..t];
     let section = &sheet[t..s];
     if records::records_wrong(records, n, sizes.m as u64) {
@@ -112,7 +119,7 @@ pub fn read_tables(sheet: &[u8], sizes: Sizes, found: &mut [u64]) -> Answer
     if transitions::order_wrong(section) {
         return refuse(8);
     }
-    if 1024 < actions_in(&sheet[s..end]) {
+    if 1024 < actions_in(step_section(sheet, s)) {
         return refuse(9);
     }
     Answer::Accepted(sizes)

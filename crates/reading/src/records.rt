@@ -4,20 +4,14 @@ ghost use mathlib.Core.Bool.{not};
 ghost use Prim.Native.Nat.{_+_, _-_, _*_, _^_, _≤_};
 ghost use lib.Dec.{eqb};
 ghost use lib.ListN.{length};
-ghost use Rattle.sets.specs.Lists.{some, below};
+ghost use Rattle.sets.specs.Lists.{anyOf, below};
 ghost use Rattle.sheet.specs.Numbers.{field};
-ghost use Rattle.sheet.specs.Refusals.{outside, recordWrong};
+ghost use Rattle.sheet.specs.Refusals.{recordWrong};
 ghost use Rattle.reading.specs.records.Alphabets.{UnionOfAlphabets, unusedIn};
-
-// Whether there are too few or too many states.
-fn miscounted(states: u64) -> bool
-    ensures { λ r. ⌜ r ≡ outside 1 32 states ⌝ }
-{
-    (states < 1) | (32 < states)
-}
+use crate::trailer;
 
 // Whether one of the three bytes at `at` is not zero.
-fn filled(s: &[u8], at: usize) -> bool
+fn filler_set(s: &[u8], at: usize) -> bool
     requires { ⌜ at + 3 ≤ length (now s) ⌝ }
     ensures { λ r. ⌜ r ≡ not (eqb (field at 3 (now (s .entry))) 0) ⌝ }
 {
@@ -31,10 +25,10 @@ fn record_wrong(records: &[u8], m: u64, j: usize) -> bool
 {
     let at = 16 * j;
     let states = numbers::wide(records[at]);
-    if miscounted(states) {
+    if trailer::out_of_range(1, 32, states) {
         return true;
     }
-    filled(records, at + 1)
+    filler_set(records, at + 1)
         | sets::misses(numbers::number4(records, at + 4), states)
         | sets::misses(numbers::number8(records, at + 8), m)
 }
@@ -42,7 +36,7 @@ fn record_wrong(records: &[u8], m: u64, j: usize) -> bool
 // 5: whether some record is wrong, of n records.
 pub fn records_wrong(records: &[u8], n: usize, m: u64) -> bool
     requires { ⌜ (m ≤ 64) × (n ≤ 16) × (16 * n ≤ length (now records)) ⌝ }
-    ensures { λ r. ⌜ r ≡ some (recordWrong (now (records .entry)) m) (below n) ⌝ }
+    ensures { λ r. ⌜ r ≡ anyOf (recordWrong (now (records .entry)) m) (below n) ⌝ }
 {
     let mut j = 0;
     while j < n {
@@ -54,8 +48,8 @@ pub fn records_wrong(records: &[u8], n: usize, m: u64) -> bool
     false
 }
 
-// The union of the first n alphabets.
-fn used(alphabets: &[u64], n: usize) -> u64
+// The actions of the first n alphabets together.
+fn actions_used(alphabets: &[u64], n: usize) -> u64
     requires { ⌜ n ≤ length (now alphabets) ⌝ }
     ensures { λ r. ⌜ UnionOfAlphabets (now (alphabets .entry)) n r ⌝ }
 {
@@ -68,8 +62,8 @@ fn used(alphabets: &[u64], n: usize) -> u64
     all
 }
 
-// The set of the numbers below m.
-fn full(m: u32) -> u64
+// All m actions: the set of the numbers below m.
+fn all_actions(m: u32) -> u64
     requires { ⌜ m ≤ 64 ⌝ }
     ensures { λ r. ⌜ r ≡ 2 ^ m - 1 ⌝ }
 {
@@ -84,6 +78,6 @@ pub fn action_unused(alphabets: &[u64], n: usize, m: u32) -> bool
     requires { ⌜ (m ≤ 64) × (n ≤ length (now alphabets)) ⌝ }
     ensures { λ r. ⌜ r ≡ unusedIn (now (alphabets .entry)) n m ⌝ }
 {
-    let all = full(m);
-    (used(alphabets, n) & all) != all
+    let all = all_actions(m);
+    (actions_used(alphabets, n) & all) != all
 }

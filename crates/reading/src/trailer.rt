@@ -7,7 +7,7 @@ ghost use lib.ListN.{length};
 ghost use Rattle.sheet.specs.Refusals.{outside, lengthWrong, markWrong, countsWrong, offsetsWrong};
 
 // Whether x is below `low` or above `high`.
-fn beyond(low: u64, high: u64, x: u64) -> bool
+pub fn out_of_range(low: u64, high: u64, x: u64) -> bool
     ensures { λ r. ⌜ r ≡ outside low high x ⌝ }
 {
     (x < low) | (high < x)
@@ -17,11 +17,11 @@ fn beyond(low: u64, high: u64, x: u64) -> bool
 pub fn length_wrong(sheet: &[u8]) -> bool
     ensures { λ r. ⌜ r ≡ lengthWrong (now (sheet .entry)) ⌝ }
 {
-    beyond(26, 16650, sheet.len() as u64)
+    out_of_range(26, 16650, sheet.len() as u64)
 }
 
 // 2: whether the sheet is not closed by the mark.
-pub fn unmarked(sheet: &[u8]) -> bool
+pub fn mark_wrong(sheet: &[u8]) -> bool
     requires { ⌜ 2 ≤ length (now sheet) ⌝ }
     ensures { λ r. ⌜ r ≡ markWrong (now (sheet .entry)) ⌝ }
 {
@@ -36,11 +36,12 @@ pub fn counts_wrong(sheet: &[u8]) -> bool
     ensures { λ r. ⌜ r ≡ countsWrong (now (sheet .entry)) ⌝ }
 {
     let l = sheet.len();
-    beyond(1, 16, numbers::wide(sheet[l - 4])) | beyond(1, 64, numbers::wide(sheet[l - 3]))
+    out_of_range(1, 16, numbers::wide(sheet[l - 4]))
+        | out_of_range(1, 64, numbers::wide(sheet[l - 3]))
 }
 
 // Whether a section of this length has a part that is not whole, or too many.
-fn uneven(length: u64, size: u64) -> bool
+fn section_length_wrong(length: u64, size: u64) -> bool
     requires { ⌜ 0 < size ⌝ }
     ensures { λ r. ⌜ r ≡ (not (eqb (length % size) 0) || ltb 8192 length) ⌝ }
 {
@@ -57,8 +58,11 @@ pub fn offsets_wrong(sheet: &[u8]) -> bool
     let c = numbers::number2(sheet, l - 10);
     let t = numbers::number2(sheet, l - 8);
     let s = numbers::number2(sheet, l - 6);
-    if beyond(t, end, s) {
+    if out_of_range(t, end, s) {
         return true;
     }
-    (c != 0) | (t != 16 * numbers::wide(sheet[l - 4])) | uneven(s - t, 4) | uneven(end - s, 8)
+    (c != 0)
+        | (t != 16 * numbers::wide(sheet[l - 4]))
+        | section_length_wrong(s - t, 4)
+        | section_length_wrong(end - s, 8)
 }

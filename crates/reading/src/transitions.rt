@@ -5,7 +5,7 @@ ghost use mathlib.Core.List.{map};
 ghost use Prim.Native.Nat.{_+_, _*_, _/_, _≤_, _<_};
 ghost use lib.Dec.{eqb};
 ghost use lib.ListN.{length, take, drop, getD};
-ghost use Rattle.sets.specs.Lists.{some};
+ghost use Rattle.sets.specs.Lists.{anyOf};
 ghost use Rattle.sets.specs.Bits.{member};
 ghost use Rattle.systems.specs.Tables.{Tables};
 ghost use Rattle.sheet.specs.Numbers.{parts};
@@ -27,7 +27,7 @@ fn label_wrong(alphabet: u64, label: u8) -> bool
 }
 
 // Whether the transition at `at` does not fit a component with so many states and this alphabet.
-fn unfit_at(section: &[u8], at: usize, states: u8, alphabet: u64) -> bool
+fn transition_wrong(section: &[u8], at: usize, states: u8, alphabet: u64) -> bool
     requires { ⌜ at + 4 ≤ length (now section) ⌝ }
     ensures { λ r. ⌜ ((T : Tables) → AtHand T (getD (now (section .entry)) at 0) states alphabet
         → r ≡ transitionWrong T (transitionOf (take 4 (drop at (now (section .entry)))))) ⌝ }
@@ -46,7 +46,7 @@ fn unfit_at(section: &[u8], at: usize, states: u8, alphabet: u64) -> bool
 pub fn transitions_wrong(section: &[u8], records: &[u8], alphabets: &[u64], n: usize) -> bool
     requires { ⌜ (1 ≤ n) × (n ≤ 16) × (16 * n ≤ length (now records)) × Alphabets (tablesOf (now records) n 0) n (now alphabets) ⌝ }
     ensures { λ r. ⌜ r
-        ≡ some (transitionWrong (sectionTables (now (records .entry)) (now (section .entry)) n 0))
+        ≡ anyOf (transitionWrong (sectionTables (now (records .entry)) (now (section .entry)) n 0))
         (map transitionOf (parts 4 (length (now (section .entry)) / 4) (now (section .entry)))) ⌝ }
 {
     let count = section.len() / 4;
@@ -64,7 +64,7 @@ pub fn transitions_wrong(section: &[u8], records: &[u8], alphabets: &[u64], n: u
             states = records[16 * component];
             alphabet = alphabets[component];
         }
-        if unfit_at(section, 4 * k, states, alphabet) {
+        if transition_wrong(section, 4 * k, states, alphabet) {
             return true;
         }
         k += 1;

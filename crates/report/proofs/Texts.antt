@@ -1,16 +1,20 @@
 -- The lines written for a sheet are its report, and a report always fits 16,384 bytes; what is then printed.
 -- Assumes nothing.
 use mathlib.Core.Path.{_≡_, refl, sym, ap, ap₂, _∙_}
+use mathlib.Core.Bool.{Bool, true, false}
 use mathlib.Core.List.{List, [], _∷_, _++_, map, List·Memᴰ, List·Memᴰ·head, List·Memᴰ·tail}
-use Prim.Native.Nat.{ℕ, _+_, _≤_, _<_}
+use Prim.Native.Nat.{ℕ, zero, suc, _+_, _*_, _^_, _≤_, _<_}
+use native.Mathlib.Nat.{div-le-self}
 use native.Mathlib.Omega.{arith}
 use lib.ListN.{length, take, getD, length-append}
-use Rattle.sets.specs.Lists.{concat, over, below}
+use Rattle.sets.specs.Lists.{appendAll, over, below}
 use Rattle.sets.specs.Bits.{members}
 use Rattle.sets.proofs.Lists.{mem-below}
 use Rattle.systems.specs.Checking.{flat}
 use Rattle.sheet.specs.Layout.{componentCount, actionCount, transitionsAt, stepsAt, stepCount, tables, steps}
-use Rattle.sheet.specs.Verdict.{Verdict, verdict, Accepted}
+use Rattle.sheet.specs.Verdict.{Verdict, verdict, IsVerdict, sheet-refused, step-refused, all-passed, Accepted}
+use Rattle.sheet.proofs.Limits.{limits-exact}
+use Rattle.sheet.proofs.Verdicts.{verdict-first, verdict-number}
 use Rattle.sheet.proofs.RoundTrip.{steps-length}
 use Rattle.answers.specs.declared.Sizes.{Sizes}
 use Rattle.answers.specs.declared.Answer.{Answer}
@@ -18,9 +22,9 @@ use Rattle.answers.specs.Outcomes.{Outcome, given, values, single, bit, outcome
 use Rattle.answers.specs.LentOutput.{outputBy}
 use Rattle.answers.specs.EndSets.{endSet}
 use Rattle.answers.specs.Restated.{restatedSteps}
-use Rattle.answers.specs.Figure.{figure}
+use Rattle.answers.specs.Figure.{quotient, figure}
 use Rattle.answers.specs.Stuck.{stuck}
-use Rattle.answers.specs.Report.{acceptedWord, refusedWord, endWord, line, summaryLine, stepLines, endLines, report, reporting, reportOutput}
+use Rattle.answers.specs.Report.{acceptedWord, refusedWord, endWord, line, stepTexts, endTexts, summaryLine, stepLines, endLines, report, reporting, reportOutput}
 use Rattle.answers.proofs.Normal.{normal-actions, normal-no-longer}
 use Rattle.answers.proofs.Restated.{restated-normal, accepted-limits, accepted-order, accepted-fine}
 use Rattle.answers.proofs.Reports.{report-refused, report-accepted}
@@ -30,13 +34,13 @@ use Rattle.desk.specs.AcceptedSheet.{AcceptedSheet}
 use Rattle.desk.specs.Calls.{endArrayBy}
 use Rattle.desk.specs.Left.{PackedSteps}
 use Rattle.desk.proofs.stuck.EndsHeld.{set-at}
-use Rattle.report.specs.text.Texts.{TextAt, stepTexts, endTexts}
+use Rattle.report.specs.text.Texts.{TextAt}
 use Rattle.report.specs.Calls.{refusalLine, ReportAnswer}
 use Rattle.report.proofs.text.Bounds.{line-most, steps-most, ends-most}
 
 -- ---- the lines of an accepted sheet
 
-texts-same : (f g : ℕ → List ℕ) (js : List ℕ) → ((j : ℕ) → List·Memᴰ j js → f j ≡ g j) → concat (map f js) ≡ concat (map g js)
+texts-same : (f g : ℕ → List ℕ) (js : List ℕ) → ((j : ℕ) → List·Memᴰ j js → f j ≡ g j) → appendAll (map f js) ≡ appendAll (map g js)
 texts-same f g [] e = refl
 texts-same f g (j ∷ js) e = ap₂ _++_ (e j (List·Memᴰ·head refl)) (texts-same f g js (λ i m. e i (List·Memᴰ·tail m)))
 
@@ -45,15 +49,15 @@ unfolding stepLines
 steps-told b packed count p = ap stepTexts (p .sets)
 
 module _ (b : List ℕ) (z : Sizes) (r : AcceptedSheet b z) (sets : List ℕ) (ended : sets ≡ endArrayBy (verdict b) b) where
-  ends-told : endTexts sets (below (z .n)) ≡ endLines b
+  ends-told : endTexts (λ j. getD sets j 0) (below (z .n)) ≡ endLines b
   unfolding endLines
   ends-told =
       texts-same (λ j. line endWord (j ∷ members (getD sets j 0))) (λ j. line endWord (j ∷ members (endSet b j))) (below (z .n))
       (λ j i. ap (λ (x : ℕ). line endWord (j ∷ members x)) (set-at b z r sets ended j (mem-below (z .n) j .0 i)))
-      ∙ ap (λ (k : ℕ). concat (map (λ j. line endWord (j ∷ members (endSet b j))) (below k))) (r .n-read)
+      ∙ ap (λ (k : ℕ). endTexts (endSet b) (below k)) (r .n-read)
 
   pub accepted-text : (numbers packed : List ℕ) (count : ℕ) → line acceptedWord numbers ≡ summaryLine b → PackedSteps b packed count
-      → line acceptedWord numbers ++ (stepTexts (take count packed) ++ endTexts sets (below (z .n))) ≡ report b
+      → line acceptedWord numbers ++ (stepTexts (take count packed) ++ endTexts (λ j. getD sets j 0) (below (z .n))) ≡ report b
   accepted-text numbers packed count q p =
       ap₂ _++_ q (ap₂ _++_ (steps-told b packed count p) ends-told) ∙ sym (report-accepted b (r .sheet-accepted))
 
@@ -65,6 +69,10 @@ refusal-text b a h e =
     ap refusalLine (s .answer-told) ∙ sym (report-refused b (s .number) (s .index) (s .verdict-told))
 
 -- ---- the length of a report
+
+bit-small : (t : Bool) → bit t < 10 ^ 20
+bit-small true = omega arith
+bit-small false = omega arith
 
 module _ (b : List ℕ) (acc : Accepted b) where
   few-steps : length (restatedSteps b) ≤ 1024
@@ -89,10 +97,26 @@ module _ (b : List ℕ) (acc : Accepted b) where
   unfolding endLines
   ends-short = ends-most (endSet b) (componentCount b) (accepted-limits b acc .components-high)
 
+  small-figure : figure b ≤ 21504
+  unfolding figure
+  small-figure = go (length (restatedSteps b)) few-steps
+    where
+      go : (k : ℕ) → k ≤ 1024 → quotient (length (flat (steps b))) k ≤ 21504
+      go zero h = omega arith
+      go (suc k) h =
+          let d = div-le-self (20 * length (flat (steps b)) + suc k) (2 * suc k) in
+          let a = accepted-limits b acc .actions-total in
+          omega arith
+
   summary-short : length (summaryLine b) ≤ 93
-  unfolding summaryLine
+  unfolding summaryLine stepCount
   summary-short =
-      let h = line-most acceptedWord (stepCount b ∷ length (restatedSteps b) ∷ figure b ∷ bit (stuck b) ∷ []) in
+      let k = accepted-limits b acc .length-high in
+      let c = few-steps in
+      let f = small-figure in
+      let h =
+      line-most acceptedWord (stepCount b ∷ length (restatedSteps b) ∷ figure b ∷ bit (stuck b) ∷ [])
+      (omega arith, (omega arith, (omega arith, (bit-small (stuck b), tt)))) in
       omega arith
 
   accepted-short : length (report b) ≤ 16384
@@ -108,6 +132,21 @@ module _ (b : List ℕ) (acc : Accepted b) where
       let g = few-actions in
       omega arith
 
+-- the step that a refusal names is one of the sheet, and there are few
+refused-index : (b : List ℕ) (k i : ℕ) → verdict b ≡ Verdict.refused k i → i < 16650
+unfolding stepCount
+refused-index b k i e = go (verdict-first b) e
+  where
+    go : {v : Verdict} → IsVerdict b v → v ≡ Verdict.refused k i → i < 16650
+    go (sheet-refused l h before) q = let z : 0 ≡ i = cc in omega arith
+    go (step-refused f passed first) q =
+        let z : f .index ≡ i = cc in
+        let l = first .step-below in
+        let n = steps-length b in
+        let size = limits-exact b .0 passed .length-high in
+        omega arith
+    go (all-passed passed faultless) q = let z : _≡_ {A = ℕ} 0 1 = cc in absurd (omega arith)
+
 pub report-short : (b : List ℕ) → length (report b) ≤ 16384
 report-short b = go (verdict b) refl
   where
@@ -115,20 +154,23 @@ report-short b = go (verdict b) refl
     go Verdict.accepted e = accepted-short b e
     go (Verdict.refused k i) e =
         let l = ap length (report-refused b k i e) in
-        let m = line-most refusedWord (k ∷ i ∷ []) in
+        let n = verdict-number b k i e .1 in
+        let j = refused-index b k i e in
+        let m = line-most refusedWord (k ∷ i ∷ []) (omega arith, (omega arith, tt)) in
         omega arith
 
 -- the room that the lines of an accepted sheet and that of a refusal take
 pub accepted-room : (b : List ℕ) (z : Sizes) → AcceptedSheet b z → (sets : List ℕ) → sets ≡ endArrayBy (verdict b) b
     → (numbers packed : List ℕ) (count : ℕ) → line acceptedWord numbers ≡ summaryLine b → PackedSteps b packed count → (size : ℕ) → 16384 ≤ size
-    → 0 + length (line acceptedWord numbers ++ (stepTexts (take count packed) ++ endTexts sets (below (z .n)))) ≤ size
+    → 0 + length (line acceptedWord numbers ++ (stepTexts (take count packed) ++ endTexts (λ j. getD sets j 0) (below (z .n)))) ≤ size
 accepted-room b z r sets ended numbers packed count q p size h =
     let x = ap length (accepted-text b z r sets ended numbers packed count q p) in
     let y = report-short b in
     omega arith
 
-pub refusal-room : (k i size : ℕ) → 16384 ≤ size → 0 + length (line refusedWord (k ∷ i ∷ [])) ≤ size
-refusal-room k i size h = let m = line-most refusedWord (k ∷ i ∷ []) in omega arith
+pub refusal-room : (k i size : ℕ) → k < 18446744073709551616 → i < 18446744073709551616 → 16384 ≤ size
+    → 0 + length (line refusedWord (k ∷ i ∷ [])) ≤ size
+refusal-room k i size few few′ h = let m = line-most refusedWord (k ∷ i ∷ []) (omega arith, (omega arith, tt)) in omega arith
 
 -- ---- what is printed
 
@@ -145,13 +187,9 @@ printed-long b out h =
     record { answer-told = ap (values single) (sym e); output-left = ap (λ (o : Outcome ℕ). outputBy o (report b) out) (sym e) }
 
 -- an output of 16,384 bytes always serves
-pub report-serves : (b out : List ℕ) → 16384 ≤ length out
-    → (reporting b (length out) ≡ given (length (report b))) × (reportOutput b out ≡ over (report b) out)
-unfolding reporting reportOutput
-report-serves b out h =
-    let s = report-short b in
-    let e = fitting-long (report b) (length out) (omega arith) in
-    (e, ap (λ (o : Outcome ℕ). outputBy o (report b) out) e)
+pub room-serves : (b out : List ℕ) → 16384 ≤ length out → reporting b (length out) ≡ given (length (report b))
+unfolding reporting
+room-serves b out h = let s = report-short b in fitting-long (report b) (length out) (omega arith)
 
 module _ (b : List ℕ) {x text : List ℕ} {size : ℕ} (W : TextAt (report b) x 0 text size) where
   size-told : size ≡ length (report b)

@@ -12,7 +12,7 @@ use desk::figure;
 use desk::stuck;
 
 // The numbers of an accepted sheet's first line: its steps, its restated steps, the figure, and 1 if it is stuck.
-pub fn numbers(sheet: &[u8], sizes: Sizes, count: usize, sets: &[u64]) -> [u64; 4]
+pub fn summary_numbers(sheet: &[u8], sizes: Sizes, count: usize, sets: &[u64]) -> [u64; 4]
     requires { ⌜ AcceptedSheet (now sheet) sizes × (count ≤ 1024) × (count ≡ length (restatedSteps (now sheet)))
         × (now sets ≡ endArrayBy (verdict (now sheet)) (now sheet)) ⌝ }
     ensures { λ r. ⌜ line acceptedWord r ≡ summaryLine (now (sheet .entry)) ⌝ }

@@ -2,11 +2,11 @@
 ghost use mathlib.Core.Path.{_≡_};
 ghost use mathlib.Core.List.{[], _∷_, map};
 ghost use Prim.Native.Nat.{_+_, _<_, _≤_};
-ghost use lib.ListN.{length, take, drop};
-ghost use Rattle.sets.specs.Lists.{below, concat};
+ghost use lib.ListN.{length, take, drop, getD};
+ghost use Rattle.sets.specs.Lists.{below, appendAll};
 ghost use Rattle.sets.specs.Bits.{members};
-ghost use Rattle.answers.specs.Report.{digitsBefore, decimal, part, line, stepWord, endWord};
-ghost use Rattle.report.specs.text.Texts.{TextAt, stepTexts, endTexts};
+ghost use Rattle.answers.specs.Report.{digitsBefore, decimal, part, line, stepWord, endWord, stepTexts, endTexts};
+ghost use Rattle.report.specs.text.Texts.{TextAt};
 
 // The decimal digits of a number, which begin at `from`.
 struct Digits {
@@ -77,8 +77,8 @@ fn put_part(x: u64, out: &mut [u8], at: usize) -> usize
 
 // Writes the numbers of a list, a space before each.
 fn put_parts(xs: &[u64], out: &mut [u8], at: usize) -> usize
-    requires { ⌜ at + length (concat (map part (now xs))) ≤ length (now out) ⌝ }
-    ensures { λ r. ⌜ TextAt (concat (map part (now (xs .entry)))) (now (out .entry)) at (now (out .exit)) r ⌝ }
+    requires { ⌜ at + length (appendAll (map part (now xs))) ≤ length (now out) ⌝ }
+    ensures { λ r. ⌜ TextAt (appendAll (map part (now (xs .entry)))) (now (out .entry)) at (now (out .exit)) r ⌝ }
 {
     let mut to = at;
     let mut i = 0;
@@ -91,8 +91,8 @@ fn put_parts(xs: &[u64], out: &mut [u8], at: usize) -> usize
 
 // Writes the elements of a set, a space before each.
 fn put_members(x: u64, out: &mut [u8], at: usize) -> usize
-    requires { ⌜ at + length (concat (map part (members x))) ≤ length (now out) ⌝ }
-    ensures { λ r. ⌜ TextAt (concat (map part (members x))) (now (out .entry)) at (now (out .exit)) r ⌝ }
+    requires { ⌜ at + length (appendAll (map part (members x))) ≤ length (now out) ⌝ }
+    ensures { λ r. ⌜ TextAt (appendAll (map part (members x))) (now (out .entry)) at (now (out .exit)) r ⌝ }
 {
     let mut to = at;
     let mut left = x;
@@ -150,8 +150,8 @@ pub fn put_steps(packed: &[u64], count: usize, out: &mut [u8], at: usize) -> usi
 
 // Writes a line for each of the first n sets.
 pub fn put_ends(sets: &[u64], n: usize, out: &mut [u8], at: usize) -> usize
-    requires { ⌜ (n ≤ length (now sets)) × (at + length (endTexts (now sets) (below n)) ≤ length (now out)) ⌝ }
-    ensures { λ r. ⌜ TextAt (endTexts (now (sets .entry)) (below n)) (now (out .entry)) at (now (out .exit)) r ⌝ }
+    requires { ⌜ (n ≤ length (now sets)) × (at + length (endTexts (λ j. getD (now sets) j 0) (below n)) ≤ length (now out)) ⌝ }
+    ensures { λ r. ⌜ TextAt (endTexts (λ j. getD (now (sets .entry)) j 0) (below n)) (now (out .entry)) at (now (out .exit)) r ⌝ }
 {
     let mut to = at;
     let mut j = 0;

@@ -8,38 +8,38 @@ use mathlib.Core.List.{List, [], _∷_, _++_, append-assoc, List·Memᴰ, List·
 use Prim.Native.Nat.{ℕ, zero, suc, _+_, _≤_, _<_, zero-le}
 use native.Mathlib.Nat.{lt-irrefl, le-antisymm, eq-or-lt-of-le}
 use native.Mathlib.Omega.{arith}
-use Rattle.sets.specs.Lists.{some, every, concat, Distinct, upward, below, RisingAbove, Rising}
+use Rattle.sets.specs.Lists.{anyOf, allOf, appendAll, Distinct, upward, below, RisingAbove, Rising}
 use Rattle.sets.proofs.Bools.{clash, false-iff, and-true, or-true, or-left-comm}
 
 module _ {ℓ} {A : Type ℓ} where
   -- ---- some
 
-  pub some-intro : (p : A → Bool) (l : List A) {x : A} → List·Memᴰ x l → p x ≡ true → some p l ≡ true
-  some-intro p (y ∷ l) (List·Memᴰ·head e) h = or-true (p y) (some p l) .1 (inl (ap p (sym e) ∙ h))
-  some-intro p (y ∷ l) (List·Memᴰ·tail m) h = or-true (p y) (some p l) .1 (inr (some-intro p l m h))
+  pub anyOf-intro : (p : A → Bool) (l : List A) {x : A} → List·Memᴰ x l → p x ≡ true → anyOf p l ≡ true
+  anyOf-intro p (y ∷ l) (List·Memᴰ·head e) h = or-true (p y) (anyOf p l) .1 (inl (ap p (sym e) ∙ h))
+  anyOf-intro p (y ∷ l) (List·Memᴰ·tail m) h = or-true (p y) (anyOf p l) .1 (inr (anyOf-intro p l m h))
 
-  pub some-elim : (p : A → Bool) (l : List A) → some p l ≡ true → (x : A) × List·Memᴰ x l × (p x ≡ true)
-  some-elim p [] h = absurd (false≢true h)
-  some-elim p (y ∷ l) h = go (some-elim p l) (or-true (p y) (some p l) .0 h)
+  pub anyOf-elim : (p : A → Bool) (l : List A) → anyOf p l ≡ true → (x : A) × List·Memᴰ x l × (p x ≡ true)
+  anyOf-elim p [] h = absurd (false≢true h)
+  anyOf-elim p (y ∷ l) h = go (anyOf-elim p l) (or-true (p y) (anyOf p l) .0 h)
     where
-      go : (some p l ≡ true → (x : A) × List·Memᴰ x l × (p x ≡ true)) → (p y ≡ true) ⊎ (some p l ≡ true)
+      go : (anyOf p l ≡ true → (x : A) × List·Memᴰ x l × (p x ≡ true)) → (p y ≡ true) ⊎ (anyOf p l ≡ true)
           → (x : A) × List·Memᴰ x (y ∷ l) × (p x ≡ true)
       go rest (inl e) = (y, List·Memᴰ·head refl, e)
       go rest (inr e) = let r = rest e in (r .0, List·Memᴰ·tail (r .1), r .2)
 
-  pub some-false : (p : A → Bool) (l : List A) → some p l ≡ false → {x : A} → List·Memᴰ x l → p x ≡ false
-  some-false p l h {x} m = false-iff (p x) .1 (λ t. clash (some-intro p l m t) h)
+  pub anyOf-false : (p : A → Bool) (l : List A) → anyOf p l ≡ false → {x : A} → List·Memᴰ x l → p x ≡ false
+  anyOf-false p l h {x} m = false-iff (p x) .1 (λ t. clash (anyOf-intro p l m t) h)
 
-  pub none-false : (p : A → Bool) (l : List A) → ((x : A) → List·Memᴰ x l → p x ≡ false) → some p l ≡ false
-  none-false p l h = false-iff (some p l) .1 (λ t. let r = some-elim p l t in clash (r .2) (h (r .0) (r .1)))
+  pub none-false : (p : A → Bool) (l : List A) → ((x : A) → List·Memᴰ x l → p x ≡ false) → anyOf p l ≡ false
+  none-false p l h = false-iff (anyOf p l) .1 (λ t. let r = anyOf-elim p l t in clash (r .2) (h (r .0) (r .1)))
 
-  pub some-append : (p : A → Bool) (k l : List A) → some p (k ++ l) ≡ (some p k || some p l)
-  some-append p [] l = refl
-  some-append p (x ∷ k) l = ap (λ (b : Bool). p x || b) (some-append p k l) ∙ sym (or-assoc (p x) (some p k) (some p l))
+  pub anyOf-append : (p : A → Bool) (k l : List A) → anyOf p (k ++ l) ≡ (anyOf p k || anyOf p l)
+  anyOf-append p [] l = refl
+  anyOf-append p (x ∷ k) l = ap (λ (b : Bool). p x || b) (anyOf-append p k l) ∙ sym (or-assoc (p x) (anyOf p k) (anyOf p l))
 
-  pub some-or : (p q : A → Bool) (l : List A) → some (λ x. p x || q x) l ≡ (some p l || some q l)
-  some-or p q [] = refl
-  some-or p q (x ∷ l) = ap (λ (b : Bool). (p x || q x) || b) (some-or p q l) ∙ cross (p x) (q x) (some p l) (some q l)
+  pub anyOf-or : (p q : A → Bool) (l : List A) → anyOf (λ x. p x || q x) l ≡ (anyOf p l || anyOf q l)
+  anyOf-or p q [] = refl
+  anyOf-or p q (x ∷ l) = ap (λ (b : Bool). (p x || q x) || b) (anyOf-or p q l) ∙ cross (p x) (q x) (anyOf p l) (anyOf q l)
     where
       cross : (a b c d : Bool) → (a || b || (c || d)) ≡ ((a || c) || (b || d))
       cross true b c d = refl
@@ -47,39 +47,39 @@ module _ {ℓ} {A : Type ℓ} where
 
   -- ---- every
 
-  pub every-intro : (p : A → Bool) (l : List A) → ((x : A) → List·Memᴰ x l → p x ≡ true) → every p l ≡ true
-  every-intro p [] h = refl
-  every-intro p (y ∷ l) h = and-true (p y) (every p l) .1 (h y (List·Memᴰ·head refl), every-intro p l (λ x m. h x (List·Memᴰ·tail m)))
+  pub allOf-intro : (p : A → Bool) (l : List A) → ((x : A) → List·Memᴰ x l → p x ≡ true) → allOf p l ≡ true
+  allOf-intro p [] h = refl
+  allOf-intro p (y ∷ l) h = and-true (p y) (allOf p l) .1 (h y (List·Memᴰ·head refl), allOf-intro p l (λ x m. h x (List·Memᴰ·tail m)))
 
-  pub every-elim : (p : A → Bool) (l : List A) → every p l ≡ true → (x : A) → List·Memᴰ x l → p x ≡ true
-  every-elim p (y ∷ l) h x (List·Memᴰ·head e) = ap p e ∙ and-true (p y) (every p l) .0 h .0
-  every-elim p (y ∷ l) h x (List·Memᴰ·tail m) = every-elim p l (and-true (p y) (every p l) .0 h .1) x m
+  pub allOf-elim : (p : A → Bool) (l : List A) → allOf p l ≡ true → (x : A) → List·Memᴰ x l → p x ≡ true
+  allOf-elim p (y ∷ l) h x (List·Memᴰ·head e) = ap p e ∙ and-true (p y) (allOf p l) .0 h .0
+  allOf-elim p (y ∷ l) h x (List·Memᴰ·tail m) = allOf-elim p l (and-true (p y) (allOf p l) .0 h .1) x m
 
-  pub every-append : (p : A → Bool) (k l : List A) → every p (k ++ l) ≡ (every p k && every p l)
-  every-append p [] l = refl
-  every-append p (x ∷ k) l = ap (λ (b : Bool). p x && b) (every-append p k l) ∙ sym (and-assoc (p x) (every p k) (every p l))
+  pub allOf-append : (p : A → Bool) (k l : List A) → allOf p (k ++ l) ≡ (allOf p k && allOf p l)
+  allOf-append p [] l = refl
+  allOf-append p (x ∷ k) l = ap (λ (b : Bool). p x && b) (allOf-append p k l) ∙ sym (and-assoc (p x) (allOf p k) (allOf p l))
 
   -- ---- concat
 
-  pub concat-append : (a b : List (List A)) → concat (a ++ b) ≡ concat a ++ concat b
-  concat-append [] b = refl
-  concat-append (l ∷ a) b = ap (λ (r : List A). l ++ r) (concat-append a b) ∙ sym (append-assoc l (concat a) (concat b))
+  pub appendAll-append : (a b : List (List A)) → appendAll (a ++ b) ≡ appendAll a ++ appendAll b
+  appendAll-append [] b = refl
+  appendAll-append (l ∷ a) b = ap (λ (r : List A). l ++ r) (appendAll-append a b) ∙ sym (append-assoc l (appendAll a) (appendAll b))
 
-  from-concat : (ls : List (List A)) {x : A} → List·Memᴰ x (concat ls) → (l : List A) × List·Memᴰ l ls × List·Memᴰ x l
-  from-concat [] m = absurd (List·Memᴰ·not-nil m)
-  from-concat (k ∷ ls) {x} m = go (from-concat ls) (List·Memᴰ·append-cases k m)
+  from-appendAll : (ls : List (List A)) {x : A} → List·Memᴰ x (appendAll ls) → (l : List A) × List·Memᴰ l ls × List·Memᴰ x l
+  from-appendAll [] m = absurd (List·Memᴰ·not-nil m)
+  from-appendAll (k ∷ ls) {x} m = go (from-appendAll ls) (List·Memᴰ·append-cases k m)
     where
-      go : (List·Memᴰ x (concat ls) → (l : List A) × List·Memᴰ l ls × List·Memᴰ x l) → List·Memᴰ x k ⊎ List·Memᴰ x (concat ls)
+      go : (List·Memᴰ x (appendAll ls) → (l : List A) × List·Memᴰ l ls × List·Memᴰ x l) → List·Memᴰ x k ⊎ List·Memᴰ x (appendAll ls)
           → (l : List A) × List·Memᴰ l (k ∷ ls) × List·Memᴰ x l
       go rest (inl h) = (k, List·Memᴰ·head refl, h)
       go rest (inr h) = let r = rest h in (r .0, List·Memᴰ·tail (r .1), r .2)
 
-  into-concat : (ls : List (List A)) {l : List A} {x : A} → List·Memᴰ l ls → List·Memᴰ x l → List·Memᴰ x (concat ls)
-  into-concat (k ∷ ls) {x = x} (List·Memᴰ·head e) m = Memᴰ·append-left (concat ls) (subst (λ (r : List A). List·Memᴰ x r) e m)
-  into-concat (k ∷ ls) (List·Memᴰ·tail h) m = Memᴰ·append-right k (into-concat ls h m)
+  into-appendAll : (ls : List (List A)) {l : List A} {x : A} → List·Memᴰ l ls → List·Memᴰ x l → List·Memᴰ x (appendAll ls)
+  into-appendAll (k ∷ ls) {x = x} (List·Memᴰ·head e) m = Memᴰ·append-left (appendAll ls) (subst (λ (r : List A). List·Memᴰ x r) e m)
+  into-appendAll (k ∷ ls) (List·Memᴰ·tail h) m = Memᴰ·append-right k (into-appendAll ls h m)
 
-  pub mem-concat : (ls : List (List A)) {x : A} → List·Memᴰ x (concat ls) ↔ ((l : List A) × List·Memᴰ l ls × List·Memᴰ x l)
-  mem-concat ls = (from-concat ls, λ h. into-concat ls (h .1) (h .2))
+  pub mem-appendAll : (ls : List (List A)) {x : A} → List·Memᴰ x (appendAll ls) ↔ ((l : List A) × List·Memᴰ l ls × List·Memᴰ x l)
+  mem-appendAll ls = (from-appendAll ls, λ h. into-appendAll ls (h .1) (h .2))
 
 -- ---- the numbers from i on, and those below n
 

@@ -1,4 +1,4 @@
--- A set of numbers below 64 as one number, with one bit for each element: sets of states and of actions (document 01, the sheet).
+-- S1: a set of numbers below 64 as one number, with one bit for each element: sets of states and of actions (document 01, the sheet).
 -- Assumes nothing.
 use mathlib.Core.Bool.{Bool}
 use mathlib.Core.List.{List, [], _∷_}

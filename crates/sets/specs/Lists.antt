@@ -7,26 +7,26 @@ use lib.ListN.{length, drop}
 
 module _ {ℓ} {A : Type ℓ} where
   -- some element passes the test
-  abbrev pub some : (A → Bool) → List A → Bool
-  some p [] = false
-  some p (x ∷ xs) = p x || some p xs
+  abbrev pub anyOf : (A → Bool) → List A → Bool
+  anyOf p [] = false
+  anyOf p (x ∷ xs) = p x || anyOf p xs
 
   -- every element passes the test
-  abbrev pub every : (A → Bool) → List A → Bool
-  every p [] = true
-  every p (x ∷ xs) = p x && every p xs
+  abbrev pub allOf : (A → Bool) → List A → Bool
+  allOf p [] = true
+  allOf p (x ∷ xs) = p x && allOf p xs
 
   -- the lists of a list of lists, one behind another
-  abbrev pub concat : List (List A) → List A
-  concat [] = []
-  concat (x ∷ xs) = x ++ concat xs
+  abbrev pub appendAll : List (List A) → List A
+  appendAll [] = []
+  appendAll (x ∷ xs) = x ++ appendAll xs
 
   -- the element before the list where the test passes, else the list alone
   abbrev pub keep : Bool → A → List A → List A
   keep true x xs = x ∷ xs
   keep false x xs = xs
 
-  -- a list written over the front of another, whose elements behind it stay
+  -- N9: a list written over the front of another, whose elements behind it stay
   abbrev pub over : List A → List A → List A
   over xs ys = xs ++ drop (length xs) ys
 

@@ -1,13 +1,18 @@
 -- One sheet byte for byte: what is written, and what is read from it.
--- A component of 3 states, two of them initial, with 10 actions; two transitions; one step, of the action 9.
+-- A component of 3 states, two of them initial, with 10 actions; two transitions; one step, of the action 9. Then a sheet with the highest
+-- numbers that there are: component 15, state 31 and action 63.
 -- Assumes nothing.
 use mathlib.Core.Path.{_≡_, refl}
 use mathlib.Core.List.{List, [], _∷_, _++_}
 use Prim.Native.Nat.{ℕ}
+use Rattle.sets.specs.Bits.{members, membersFrom}
 use Rattle.systems.specs.Tables.{Tables, internal}
+use Rattle.systems.specs.Running.{rounds, closure, start, fire, fireAll}
+use Rattle.systems.specs.Checking.{flat}
 use Rattle.sheet.specs.Numbers.{field}
-use Rattle.sheet.specs.Layout.{stepsAt, componentCount, actionCount, front, statesOf, initialOf, alphabetOf, transitionBytes, tablesOf, tables, stepCount, steps}
+use Rattle.sheet.specs.Layout.{recordsAt, transitionsAt, stepsAt, componentCount, actionCount, closing, front, statesOf, fillerOf, initialOf, alphabetOf, transitionBytes, transitionOf, tablesOf, tables, stepCount, steps}
 use Rattle.sheet.specs.Writing.{trailer, sheetOf}
+use Rattle.sheet.specs.LimitCases.{widestFront, widest}
 
 -- 24 bytes: the record, then the two transitions
 abbrev before : List ℕ
@@ -55,3 +60,89 @@ example-tables =
       alphabet-ten = refl;
       transitions-two = refl;
     }
+
+-- ---- each field at its place
+
+-- a record and a trailer whose bytes count upwards from 1
+abbrev counted : List ℕ
+counted = 1 ∷ 2 ∷ 3 ∷ 4 ∷ 5 ∷ 6 ∷ 7 ∷ 8 ∷ 9 ∷ 10 ∷ 11 ∷ 12 ∷ 13 ∷ 14 ∷ 15 ∷ 16 ∷ 17 ∷ 18 ∷ 19 ∷ 20 ∷ 21 ∷ 22 ∷ 23 ∷ 24 ∷ 25 ∷ 26 ∷ []
+
+pub record EachField (b : List ℕ) : Type 0 where
+  pub state-count : statesOf b 0 ≡ 1
+  pub filler : fillerOf b 0 ≡ 0x04_0302
+  pub initial-set : initialOf b 0 ≡ 0x0807_0605
+  pub alphabet-set : alphabetOf b 0 ≡ 0x100f_0e0d_0c0b_0a09
+  pub offset-C : recordsAt b ≡ 0x1211
+  pub offset-T : transitionsAt b ≡ 0x1413
+  pub offset-S : stepsAt b ≡ 0x1615
+  pub count-n : componentCount b ≡ 23
+  pub count-m : actionCount b ≡ 24
+  pub last-two : closing b ≡ 25 ∷ 26 ∷ []
+
+pub each-field : EachField counted
+unfolding field statesOf fillerOf initialOf alphabetOf recordsAt transitionsAt stepsAt componentCount actionCount closing
+each-field =
+    record {
+      state-count = refl;
+      filler = refl;
+      initial-set = refl;
+      alphabet-set = refl;
+      offset-C = refl;
+      offset-T = refl;
+      offset-S = refl;
+      count-n = refl;
+      count-m = refl;
+      last-two = refl;
+    }
+
+-- behind the end every byte counts as 0
+pub nothing-there : transitionOf [] ≡ record { component = 0; source = 0; label = 0; target = 0 }
+nothing-there = refl
+
+-- ---- component 15, state 31, action 63
+
+pub widest-written : sheetOf widestFront 16 64 (0x8000_0000_0000_0000 ∷ []) ≡ widest
+unfolding sheetOf trailer
+widest-written = refl
+
+pub widest-steps : steps widest ≡ 0x8000_0000_0000_0000 ∷ []
+unfolding steps stepCount stepsAt field
+widest-steps = refl
+
+pub record WidestTables (T : Tables) : Type 0 where
+  pub components-16 : T .components ≡ 16
+  pub actions-64 : T .actions ≡ 64
+  pub states-small : T .states 14 ≡ 1
+  pub states-last : T .states 15 ≡ 32
+  pub initial-small : T .initial 14 ≡ 0b1
+  pub initial-last : T .initial 15 ≡ 0x8004_0201
+  pub alphabet-small : T .alphabet 14 ≡ 0b1
+  pub alphabet-last : T .alphabet 15 ≡ 0xffff_ffff_ffff_fffe
+  pub transitions-last :
+      T .transitions
+      ≡ record { component = 15; source = 31; label = 63; target = 31 } ∷ record { component = 15; source = 31; label = 255; target = 30 } ∷ []
+
+pub widest-tables : WidestTables (tables widest)
+unfolding tables tablesOf front stepsAt componentCount actionCount statesOf initialOf alphabetOf transitionBytes field
+widest-tables =
+    record {
+      components-16 = refl;
+      actions-64 = refl;
+      states-small = refl;
+      states-last = refl;
+      initial-small = refl;
+      initial-last = refl;
+      alphabet-small = refl;
+      alphabet-last = refl;
+      transitions-last = refl;
+    }
+
+-- what component 15 holds at the start, and after the step
+pub record WidestRun (T : Tables) (xs : List ℕ) : Type 0 where
+  pub at-start : start T 15 ≡ 0xc004_0201
+  pub at-end : fireAll T (start T) (flat xs) 15 ≡ 0xc000_0000
+  pub small-stays : fireAll T (start T) (flat xs) 14 ≡ 0b1
+
+pub widest-run : WidestRun (tables widest) (steps widest)
+unfolding members membersFrom rounds closure start fire tables tablesOf front stepCount steps stepsAt componentCount actionCount statesOf initialOf alphabetOf transitionBytes field
+widest-run = record { at-start = refl; at-end = refl; small-stays = refl }

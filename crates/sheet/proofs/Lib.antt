@@ -1,3 +1,5 @@
+pub mod Example
+pub mod Cases
 pub mod Numbers
 pub mod Sections
 pub mod Limits
@@ -5,4 +7,3 @@ pub mod Verdicts
 pub mod Guards
 pub mod Passing
 pub mod RoundTrip
-pub mod Example

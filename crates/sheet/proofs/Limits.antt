@@ -1,4 +1,4 @@
--- Each of refusals 1 to 9 fails to hold exactly when its sentence is met, and none of them holds exactly when the sheet is in limits.
+-- Each of R1 to R9 fails to hold exactly when its sentence is met, and none of them holds exactly when the sheet is in limits.
 -- The tables of a sheet in limits are in order.
 -- Assumes nothing.
 use mathlib.Core.Path.{_≡_, refl, sym, ap₂, _∙_}
@@ -10,13 +10,14 @@ use native.Mathlib.Omega.{arith}
 use lib.Dec.{ltb, leb, eqb}
 use lib.ListN.{length, take, drop, getD}
 use lib.Seq.{getD-take, getD-drop}
-use Rattle.sets.specs.Lists.{some, below}
+use Rattle.sets.specs.Lists.{anyOf, below}
 use Rattle.sets.specs.Bits.{member}
 use Rattle.sets.proofs.Bools.{true-or-false, not-false, and-true, or-true, or-false, leb-false, ltb-true, ltb-false, eqb-true, eqb-false}
-use Rattle.sets.proofs.Lists.{some-intro, some-elim, some-false, none-false, mem-below}
+use Rattle.sets.proofs.Lists.{anyOf-intro, anyOf-elim, anyOf-false, none-false, mem-below}
 use Rattle.sets.proofs.Members.{member-lt, lt-members}
 use Rattle.systems.specs.Tables.{Transition, Tables, internal, Fits, InOrder}
 use Rattle.systems.specs.Checking.{flat}
+use Rattle.sheet.specs.Bounds.{recordSize, transitionSize, stepSize, trailerSize, shortest, longest, mostComponents, mostActions, mostStates, mostTransitions, mostSteps, mostInSteps}
 use Rattle.sheet.specs.Numbers.{number, field}
 use Rattle.sheet.specs.Layout.{recordsAt, transitionsAt, stepsAt, componentCount, actionCount, closing, mark, front, statesOf, fillerOf, initialOf, alphabetOf, transitionBytes, tablesOf, tables, steps}
 use Rattle.sheet.specs.Limits.{RecordInLimits, Before, shorter, here, later, AscendingFrom, Ascending, InLimits}
@@ -43,11 +44,11 @@ bits-below : (n x : ℕ) → (leb (2 ^ n) x ≡ false) ↔ ((i : ℕ) → member
 bits-below n x = Iff·trans (leb-false (2 ^ n) x) (λ h i. member-lt n x i h, lt-members n x)
 
 -- no element fails
-none-of : {A : Type 0} (p : A → Bool) (P : A → Type 0) → ((x : A) → (p x ≡ false) ↔ P x) → (l : List A) → (some p l ≡ false) ↔ ((x : A) → List·Memᴰ x l → P x)
-none-of p P right l = (λ e x m. right x .0 (some-false p l e m), λ h. none-false p l (λ x m. right x .1 (h x m)))
+none-of : {A : Type 0} (p : A → Bool) (P : A → Type 0) → ((x : A) → (p x ≡ false) ↔ P x) → (l : List A) → (anyOf p l ≡ false) ↔ ((x : A) → List·Memᴰ x l → P x)
+none-of p P right l = (λ e x m. right x .0 (anyOf-false p l e m), λ h. none-false p l (λ x m. right x .1 (h x m)))
 
 -- no number below n fails
-none-below : (p : ℕ → Bool) (P : ℕ → Type 0) → ((i : ℕ) → (p i ≡ false) ↔ P i) → (n : ℕ) → (some p (below n) ≡ false) ↔ ((i : ℕ) → i < n → P i)
+none-below : (p : ℕ → Bool) (P : ℕ → Type 0) → ((i : ℕ) → (p i ≡ false) ↔ P i) → (n : ℕ) → (anyOf p (below n) ≡ false) ↔ ((i : ℕ) → i < n → P i)
 none-below p P right n =
     Iff·trans (none-of p P right (below n))
     (λ h i l. h i (mem-below n i .1 l), λ h i m. h i (mem-below n i .0 m))
@@ -118,9 +119,9 @@ ascending-right (x ∷ l) = from-right x l
 -- ---- refusals 1 to 9
 
 -- 1
-pub length-right : (b : List ℕ) → (lengthWrong b ≡ false) ↔ ((26 ≤ length b) × (length b ≤ 16650))
+pub length-right : (b : List ℕ) → (lengthWrong b ≡ false) ↔ ((shortest ≤ length b) × (length b ≤ longest))
 unfolding lengthWrong
-length-right b = inside 26 16650 (length b)
+length-right b = inside shortest longest (length b)
 
 -- 2
 pub mark-right : (b : List ℕ) → (markWrong b ≡ false) ↔ (closing b ≡ mark)
@@ -129,17 +130,17 @@ mark-right b = Iff·trans (not-false (sameBytes (closing b) mark)) (same-bytes (
 
 -- 3
 pub counts-right : (b : List ℕ)
-    → (countsWrong b ≡ false) ↔ (((1 ≤ componentCount b) × (componentCount b ≤ 16)) × ((1 ≤ actionCount b) × (actionCount b ≤ 64)))
+    → (countsWrong b ≡ false) ↔ (((1 ≤ componentCount b) × (componentCount b ≤ mostComponents)) × ((1 ≤ actionCount b) × (actionCount b ≤ mostActions)))
 unfolding countsWrong
-counts-right b = neither (inside 1 16 (componentCount b)) (inside 1 64 (actionCount b))
+counts-right b = neither (inside 1 mostComponents (componentCount b)) (inside 1 mostActions (actionCount b))
 
 -- 4
-pub offsets-right : (b : List ℕ) → 26 ≤ length b
+pub offsets-right : (b : List ℕ) → shortest ≤ length b
     → (offsetsWrong b ≡ false)
     ↔ ((recordsAt b ≡ 0)
-    × (transitionsAt b ≡ 16 * componentCount b)
-    × ((k : ℕ) × (k ≤ 2048) × (stepsAt b ≡ transitionsAt b + 4 * k))
-    × ((k : ℕ) × (k ≤ 1024) × (length b ≡ stepsAt b + 8 * k + 10)))
+    × (transitionsAt b ≡ recordSize * componentCount b)
+    × ((k : ℕ) × (k ≤ mostTransitions) × (stepsAt b ≡ transitionsAt b + transitionSize * k))
+    × ((k : ℕ) × (k ≤ mostSteps) × (length b ≡ stepsAt b + stepSize * k + trailerSize)))
 unfolding offsetsWrong
 offsets-right b long =
     Iff·trans
@@ -147,16 +148,16 @@ offsets-right b long =
     (neither
     (neither
     (neither
-    (neither (neither (same (recordsAt b) 0) (same (transitionsAt b) (16 * componentCount b))) (inside (transitionsAt b) (length b - 10) (stepsAt b)))
-    (same ((stepsAt b - transitionsAt b) % 4) 0))
-    (ltb-false 8192 (stepsAt b - transitionsAt b)))
-    (same ((length b - 10 - stepsAt b) % 8) 0))
-    (ltb-false 8192 (length b - 10 - stepsAt b))) (
+    (neither (neither (same (recordsAt b) 0) (same (transitionsAt b) (recordSize * componentCount b))) (inside (transitionsAt b) (length b - trailerSize) (stepsAt b)))
+    (same ((stepsAt b - transitionsAt b) % transitionSize) 0))
+    (ltb-false (transitionSize * mostTransitions) (stepsAt b - transitionsAt b)))
+    (same ((length b - trailerSize - stepsAt b) % stepSize) 0))
+    (ltb-false (stepSize * mostSteps) (length b - trailerSize - stepsAt b))) (
       λ h. (
         omega arith,
         omega arith,
-        ((stepsAt b - transitionsAt b) / 4, omega arith, omega arith),
-        ((length b - 10 - stepsAt b) / 8, omega arith, omega arith),
+        ((stepsAt b - transitionsAt b) / transitionSize, omega arith, omega arith),
+        ((length b - trailerSize - stepsAt b) / stepSize, omega arith, omega arith),
       ),
       λ h. ((((((omega arith, omega arith), (omega arith, omega arith)), omega arith), omega arith), omega arith), omega arith),
     )
@@ -169,7 +170,7 @@ record-right b m j =
     (neither
     (neither
     (neither
-    (neither (neither (inside 1 32 (statesOf b j)) (Iff·trans (same (fillerOf b j) 0) (field-zero (16 * j + 1) 3 b))) (eqb-false (initialOf b j) 0))
+    (neither (neither (inside 1 mostStates (statesOf b j)) (Iff·trans (same (fillerOf b j) 0) (field-zero (recordSize * j + 1) 3 b))) (eqb-false (initialOf b j) 0))
     (bits-below (statesOf b j) (initialOf b j)))
     (eqb-false (alphabetOf b j) 0))
     (bits-below m (alphabetOf b j))) (
@@ -196,13 +197,13 @@ pub actions-used : (b : List ℕ)
 unfolding actionUnused
 actions-used b = none-below _ (λ a. (j : ℕ) × (j < componentCount b) × (member (tables b .alphabet j) a ≡ true)) used (actionCount b)
   where
-    used : (a : ℕ) → (not (some (λ j. member (tables b .alphabet j) a) (below (componentCount b))) ≡ false)
+    used : (a : ℕ) → (not (anyOf (λ j. member (tables b .alphabet j) a) (below (componentCount b))) ≡ false)
         ↔ ((j : ℕ) × (j < componentCount b) × (member (tables b .alphabet j) a ≡ true))
     used a =
-        Iff·trans (not-false (some (λ j. member (tables b .alphabet j) a) (below (componentCount b)))) (
-          λ e. let r = some-elim (λ j. member (tables b .alphabet j) a) (below (componentCount b)) e in
+        Iff·trans (not-false (anyOf (λ j. member (tables b .alphabet j) a) (below (componentCount b)))) (
+          λ e. let r = anyOf-elim (λ j. member (tables b .alphabet j) a) (below (componentCount b)) e in
               (r .0, mem-below (componentCount b) (r .0) .0 (r .1), r .2),
-          λ h. some-intro (λ j. member (tables b .alphabet j) a) (below (componentCount b)) (mem-below (componentCount b) (h .0) .1 (h .1)) (h .2),
+          λ h. anyOf-intro (λ j. member (tables b .alphabet j) a) (below (componentCount b)) (mem-below (componentCount b) (h .0) .1 (h .1)) (h .2),
         )
 
 -- 7
@@ -240,9 +241,9 @@ unfolding orderWrong
 order-right b = Iff·trans (not-false (risingBytes (transitionBytes (front b) (componentCount b)))) (ascending-right (transitionBytes (front b) (componentCount b)))
 
 -- 9
-pub total-right : (b : List ℕ) → (tooManyActions b ≡ false) ↔ (length (flat (steps b)) ≤ 1024)
+pub total-right : (b : List ℕ) → (tooManyActions b ≡ false) ↔ (length (flat (steps b)) ≤ mostInSteps)
 unfolding tooManyActions
-total-right b = ltb-false 1024 (length (flat (steps b)))
+total-right b = ltb-false mostInSteps (length (flat (steps b)))
 
 -- ---- all of them
 
@@ -300,3 +301,13 @@ limits-order b r =
       action-used = r .actions-used;
       transition-fits = r .transitions;
     }
+
+-- ---- what the shortest and the longest sheet are made of
+
+-- one component and nothing else
+pub shortest-sheet : shortest ≡ recordSize + trailerSize
+shortest-sheet = refl
+
+-- as many components, transitions and steps as there may be
+pub longest-sheet : longest ≡ recordSize * mostComponents + transitionSize * mostTransitions + stepSize * mostSteps + trailerSize
+longest-sheet = refl

@@ -9,7 +9,7 @@ use native.Mathlib.Omega.{arith}
 use lib.ListN.{length, take, drop, getD, length-take, length-drop, length-append, length-map, List·getD-map}
 use lib.Seq.{getD-drop, take-at, drop-at, take-add, take-take, drop-drop, take-nil, length-take-le}
 use lib.Pow.{pow-add}
-use Rattle.sets.specs.Lists.{concat}
+use Rattle.sets.specs.Lists.{appendAll}
 use Rattle.sheet.specs.Numbers.{AreBytes, number, bytes, field, parts}
 
 -- ---- lists of bytes
@@ -42,9 +42,9 @@ bytes-take (suc n) (d ∷ b) h = bytes-cons d (take n b) (h 0) (bytes-take n b (
 pub bytes-drop : (n : ℕ) (b : List ℕ) → AreBytes b → AreBytes (drop n b)
 bytes-drop n b h i = rw getD-drop (h (n + i))
 
-pub bytes-concat : (ls : List (List ℕ)) → ((l : List ℕ) → List·Memᴰ l ls → AreBytes l) → AreBytes (concat ls)
-bytes-concat [] h = bytes-nil
-bytes-concat (l ∷ ls) h = bytes-append l (concat ls) (h l (List·Memᴰ·head refl)) (bytes-concat ls (λ k m. h k (List·Memᴰ·tail m)))
+pub bytes-appendAll : (ls : List (List ℕ)) → ((l : List ℕ) → List·Memᴰ l ls → AreBytes l) → AreBytes (appendAll ls)
+bytes-appendAll [] h = bytes-nil
+bytes-appendAll (l ∷ ls) h = bytes-append l (appendAll ls) (h l (List·Memᴰ·head refl)) (bytes-appendAll ls (λ k m. h k (List·Memᴰ·tail m)))
 
 -- ---- a number and its bytes
 
@@ -138,21 +138,21 @@ pub parts-length : (size k : ℕ) (b : List ℕ) → length (parts size k b) ≡
 parts-length size zero b = refl
 parts-length size (suc k) b = ap suc (parts-length size k (drop size b))
 
-pub parts-concat : (size k : ℕ) (b : List ℕ) → concat (parts size k b) ≡ take (size * k) b
-parts-concat size zero b = ap (λ (j : ℕ). take j b) (sym (mul-zero size))
-parts-concat size (suc k) b =
-    ap (λ (l : List ℕ). take size b ++ l) (parts-concat size k (drop size b))
+pub parts-appendAll : (size k : ℕ) (b : List ℕ) → appendAll (parts size k b) ≡ take (size * k) b
+parts-appendAll size zero b = ap (λ (j : ℕ). take j b) (sym (mul-zero size))
+parts-appendAll size (suc k) b =
+    ap (λ (l : List ℕ). take size b ++ l) (parts-appendAll size k (drop size b))
     ∙ sym (take-add size (size * k) b)
     ∙ ap (λ (j : ℕ). take j b) (add-comm size (size * k) ∙ sym (mul-suc size k))
 
-pub parts-of-concat : (size : ℕ) (ls : List (List ℕ)) (rest : List ℕ) → ((l : List ℕ) → List·Memᴰ l ls → length l ≡ size)
-    → parts size (length ls) (concat ls ++ rest) ≡ ls
-parts-of-concat size [] rest h = refl
-parts-of-concat size (l ∷ ls) rest h =
+pub parts-of-appendAll : (size : ℕ) (ls : List (List ℕ)) (rest : List ℕ) → ((l : List ℕ) → List·Memᴰ l ls → length l ≡ size)
+    → parts size (length ls) (appendAll ls ++ rest) ≡ ls
+parts-of-appendAll size [] rest h = refl
+parts-of-appendAll size (l ∷ ls) rest h =
     let e : length l ≡ size = h l (List·Memᴰ·head refl) in
-    ap (λ (b : List ℕ). parts size (suc (length ls)) b) (append-assoc l (concat ls) rest)
-    ∙ ap₂ (λ (p b : List ℕ). p ∷ parts size (length ls) b) (take-at l (concat ls ++ rest) size e) (drop-at l (concat ls ++ rest) size e)
-    ∙ ap (λ (r : List (List ℕ)). l ∷ r) (parts-of-concat size ls rest (λ k m. h k (List·Memᴰ·tail m)))
+    ap (λ (b : List ℕ). parts size (suc (length ls)) b) (append-assoc l (appendAll ls) rest)
+    ∙ ap₂ (λ (p b : List ℕ). p ∷ parts size (length ls) b) (take-at l (appendAll ls ++ rest) size e) (drop-at l (appendAll ls ++ rest) size e)
+    ∙ ap (λ (r : List (List ℕ)). l ∷ r) (parts-of-appendAll size ls rest (λ k m. h k (List·Memᴰ·tail m)))
 
 pub part-bytes : (size k : ℕ) (b : List ℕ) → AreBytes b → (p : List ℕ) → List·Memᴰ p (parts size k b) → AreBytes p
 part-bytes size (suc k) b h p (List·Memᴰ·head e) = subst AreBytes (sym e) (bytes-take size b h)
@@ -197,17 +197,17 @@ map-same {ℓ} : {A : Type ℓ} (f : A → A) (l : List A) → ((x : A) → List
 map-same f [] h = refl
 map-same {A = A} f (x ∷ l) h = ap₂ (λ (y : A) (r : List A). y ∷ r) (h x (List·Memᴰ·head refl)) (map-same f l (λ y m. h y (List·Memᴰ·tail m)))
 
-pub length-numbers : (size : ℕ) (xs : List ℕ) → length (concat (map (bytes size) xs)) ≡ size * length xs
+pub length-numbers : (size : ℕ) (xs : List ℕ) → length (appendAll (map (bytes size) xs)) ≡ size * length xs
 length-numbers size [] = sym (mul-zero size)
 length-numbers size (x ∷ xs) =
-    length-append (bytes size x) (concat (map (bytes size) xs))
+    length-append (bytes size x) (appendAll (map (bytes size) xs))
     ∙ omega (arith, length-bytes size x, length-numbers size xs, mul-suc size (length xs))
 
 pub numbers-back : (size : ℕ) (xs rest : List ℕ) → ((x : ℕ) → List·Memᴰ x xs → x < 256 ^ size)
-    → map number (parts size (length xs) (concat (map (bytes size) xs) ++ rest)) ≡ xs
+    → map number (parts size (length xs) (appendAll (map (bytes size) xs) ++ rest)) ≡ xs
 numbers-back size xs rest h =
-    ap (λ (j : ℕ). map number (parts size j (concat (map (bytes size) xs) ++ rest))) (sym (length-map xs (bytes size)))
-    ∙ ap (map number) (parts-of-concat size (map (bytes size) xs) rest sized)
+    ap (λ (j : ℕ). map number (parts size j (appendAll (map (bytes size) xs) ++ rest))) (sym (length-map xs (bytes size)))
+    ∙ ap (map number) (parts-of-appendAll size (map (bytes size) xs) rest sized)
     ∙ map-map number (bytes size) xs
     ∙ map-same (λ x. number (bytes size x)) xs (λ x m. number-bytes size x (h x m))
   where
@@ -215,10 +215,10 @@ numbers-back size xs rest h =
     sized l m = let r = Memᴰ·of-map (bytes size) xs m in ap length (sym (r .2)) ∙ length-bytes size (r .0)
 
 pub bytes-back : (size k : ℕ) (b : List ℕ) → AreBytes b → size * k ≤ length b
-    → concat (map (bytes size) (map number (parts size k b))) ≡ take (size * k) b
+    → appendAll (map (bytes size) (map number (parts size k b))) ≡ take (size * k) b
 bytes-back size k b h fits =
-    ap concat (map-map (bytes size) number (parts size k b) ∙ map-same (λ p. bytes size (number p)) (parts size k b) same)
-    ∙ parts-concat size k b
+    ap appendAll (map-map (bytes size) number (parts size k b) ∙ map-same (λ p. bytes size (number p)) (parts size k b) same)
+    ∙ parts-appendAll size k b
   where
     same : (p : List ℕ) → List·Memᴰ p (parts size k b) → bytes size (number p) ≡ p
     same p m =

@@ -12,7 +12,7 @@ use Rattle.sheet.specs.Layout.{recordsAt, transitionsAt, stepsAt, compon
 use Rattle.sheet.specs.Sections.{stepsIn}
 use Rattle.sheet.specs.Limits.{InLimits}
 use Rattle.sheet.specs.Writing.{stepBytes, trailer, sheetOf}
-use Rattle.sheet.proofs.Numbers.{bytes-each, bytes-append, bytes-take, bytes-drop, bytes-concat, bytes-are, number-bytes, bytes-number, parts-length, length-numbers, numbers-back, bytes-back, parts-part}
+use Rattle.sheet.proofs.Numbers.{bytes-each, bytes-append, bytes-take, bytes-drop, bytes-appendAll, bytes-are, number-bytes, bytes-number, parts-length, length-numbers, numbers-back, bytes-back, parts-part}
 
 -- ---- the trailer
 
@@ -133,7 +133,7 @@ module _ (before : List ℕ) (n m : ℕ) (xs : List ℕ) where
   unfolding sheetOf
   written-bytes h c a =
       bytes-append before (stepBytes xs ++ trailer (length before) n m) h
-      (bytes-append (stepBytes xs) (trailer (length before) n m) (bytes-concat (map (bytes 8) xs) each) (trailer-bytes (length before) n m c a))
+      (bytes-append (stepBytes xs) (trailer (length before) n m) (bytes-appendAll (map (bytes 8) xs) each) (trailer-bytes (length before) n m c a))
     where
       each : (l : List ℕ) → List·Memᴰ l (map (bytes 8) xs) → AreBytes l
       each l k = let r = Memᴰ·of-map (bytes 8) xs k in subst AreBytes (r .2) (bytes-are 8 (r .0))

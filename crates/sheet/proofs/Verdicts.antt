@@ -1,11 +1,11 @@
--- The verdict is the first refusal in the printed order, or accepted when none holds, and it is the only such verdict.
+-- O1: the verdict is the first refusal in the printed order, or accepted when none holds, and it is the only such verdict.
 -- A sheet is accepted exactly when it is in limits and no step has a fault.
 -- Assumes nothing.
 use mathlib.Core.Path.{_≡_, refl, sym, ap, _∙_, subst}
 use mathlib.Core.Logic.{_↔_, _≢_, inl, inr}
 use mathlib.Core.Bool.{Bool, true, false}
 use mathlib.Core.List.{List}
-use mathlib.Core.Option.{Option, none, some as just}
+use mathlib.Core.Option.{Option, none, some}
 use Prim.Native.Nat.{ℕ, suc, _-_, _≤_, _<_}
 use native.Mathlib.Nat.{eq-or-lt-of-le, le-of-suc-le-suc}
 use native.Mathlib.Decide.{decLt}
@@ -36,10 +36,10 @@ faulty-number T H x k e =
 -- ---- one refusal of 1 to 9 after another
 
 -- no refusal below k holds
-abbrev Passed : List ℕ → ℕ → Type 0
-Passed b k = (i : ℕ) → i < k → refusal b i ≡ false
+abbrev NoRefusalBelow : List ℕ → ℕ → Type 0
+NoRefusalBelow b k = (i : ℕ) → i < k → refusal b i ≡ false
 
-pass : (b : List ℕ) (k : ℕ) → Passed b k → refusal b k ≡ false → Passed b (suc k)
+pass : (b : List ℕ) (k : ℕ) → NoRefusalBelow b k → refusal b k ≡ false → NoRefusalBelow b (suc k)
 pass b k before e i l = elim (eq-or-lt-of-le (le-of-suc-le-suc l)) [ inl q ↦ ap (refusal b) q ∙ e | inr h ↦ before i h ]
 
 -- there is no refusal 0, and none of the sheet behind 9
@@ -59,11 +59,11 @@ refusal-number b k e =
     let high : ¬ (9 < k) = λ l. clash e (refusal-behind b k l) in
     omega arith
 
-all-nine : (b : List ℕ) → Passed b 10 → (k : ℕ) → refusal b k ≡ false
+all-nine : (b : List ℕ) → NoRefusalBelow b 10 → (k : ℕ) → refusal b k ≡ false
 all-nine b before k = elim (decLt k 10) [ yes l ↦ before k l | no n ↦ refusal-behind b k (omega arith) ]
 
 -- refusal k comes next: it is the verdict, or the verdict is that of the rest
-try : (b : List ℕ) (k : ℕ) (v : Verdict) → (Passed b (suc k) → IsVerdict b v) → Passed b k → IsVerdict b (refuseIf (refusal b k) k v)
+try : (b : List ℕ) (k : ℕ) (v : Verdict) → (NoRefusalBelow b (suc k) → IsVerdict b v) → NoRefusalBelow b k → IsVerdict b (refuseIf (refusal b k) k v)
 try b k v rest before = go (refusal b k) refl
   where
     go : (r : Bool) → refusal b k ≡ r → IsVerdict b (refuseIf r k v)
@@ -76,7 +76,7 @@ steps-first b before = go (firstFault (tables b) (start (tables b)) 0 (steps b))
   where
     go : (f : Option Fault) → firstFault (tables b) (start (tables b)) 0 (steps b) ≡ f → IsVerdict b (ofFault f)
     go none e = all-passed before (no-fault (tables b) (start (tables b)) (steps b) .0 e)
-    go (just f) e = step-refused f before (first-fault (tables b) (start (tables b)) (steps b) f .0 e)
+    go (some f) e = step-refused f before (first-fault (tables b) (start (tables b)) (steps b) f .0 e)
 
 pub verdict-first : (b : List ℕ) → IsVerdict b (verdict b)
 unfolding verdict refusal

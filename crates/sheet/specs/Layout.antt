@@ -1,16 +1,17 @@
--- The sheet's layout: the trailer, the three sections, and the tables and steps that they hold (document 01, "The sheet").
+-- The sheet's layout: the trailer, the three sections, and the tables and steps that they hold (S2 to S7; document 01, the sheet).
 -- Each definition is total: of bytes that are no sheet it gives what stands there, or 0 behind the end.
 -- Assumes nothing.
 use mathlib.Core.List.{List, [], _∷_, map}
 use Prim.Native.Nat.{ℕ, _+_, _-_, _*_, _/_}
 use lib.ListN.{length, take, drop, getD}
 use Rattle.systems.specs.Tables.{Transition, Tables}
+use Rattle.sheet.specs.Bounds.{recordSize, transitionSize, stepSize, trailerSize}
 use Rattle.sheet.specs.Numbers.{number, field, parts}
 
--- "Trailer, the last 10 bytes: offset C of the records, T of the transitions, S of the steps (2 bytes each),
--- n components, m actions (1 byte each), then the two bytes hexadecimal 46 53."
+-- S6: the trailer, the last ten bytes: C, T and S, where records, transitions and steps begin, in two bytes each; n and m, the
+-- numbers of components and actions, in one byte each; the closing mark
 unfoldable pub recordsAt : List ℕ → ℕ
-recordsAt b = field (length b - 10) 2 b
+recordsAt b = field (length b - trailerSize) 2 b
 
 unfoldable pub transitionsAt : List ℕ → ℕ
 transitionsAt b = field (length b - 8) 2 b
@@ -30,29 +31,29 @@ closing b = drop (length b - 2) b
 abbrev pub mark : List ℕ
 mark = 0x46 ∷ 0x53 ∷ []
 
--- the bytes before S: the records and the transitions
+-- S2: the bytes before S: the records and the transitions
 unfoldable pub front : List ℕ → List ℕ
 front b = take (stepsAt b) b
 
--- "Component records, 16 bytes each: state count (1 byte), three zero bytes, initial set (4 bytes, bit i for state i),
--- alphabet (8 bytes, bit a for action a)": of the record with index j
+-- S3: of the record with index j, 16 bytes: the number of states in one byte, three bytes of zero, the set of initial states in four,
+-- the alphabet in eight
 unfoldable pub statesOf : List ℕ → ℕ → ℕ
-statesOf b j = field (16 * j) 1 b
+statesOf b j = field (recordSize * j) 1 b
 
 unfoldable pub fillerOf : List ℕ → ℕ → ℕ
-fillerOf b j = field (16 * j + 1) 3 b
+fillerOf b j = field (recordSize * j + 1) 3 b
 
 unfoldable pub initialOf : List ℕ → ℕ → ℕ
-initialOf b j = field (16 * j + 4) 4 b
+initialOf b j = field (recordSize * j + 4) 4 b
 
 unfoldable pub alphabetOf : List ℕ → ℕ → ℕ
-alphabetOf b j = field (16 * j + 8) 8 b
+alphabetOf b j = field (recordSize * j + 8) 8 b
 
--- "Transitions, 4 bytes each": the four bytes of each, behind n records
+-- S4: the four bytes of each transition; they stand behind n records
 unfoldable pub transitionBytes : List ℕ → ℕ → List (List ℕ)
-transitionBytes b n = parts 4 ((length b - 16 * n) / 4) (drop (16 * n) b)
+transitionBytes b n = parts transitionSize ((length b - recordSize * n) / transitionSize) (drop (recordSize * n) b)
 
--- "component, source, label, target"
+-- S4: which component, from which state, by which label, to which state
 abbrev pub transitionOf : List ℕ → Transition
 transitionOf d = record { component = getD d 0 0; source = getD d 1 0; label = getD d 2 0; target = getD d 3 0 }
 
@@ -68,14 +69,14 @@ tablesOf b n m =
       transitions = map transitionOf (transitionBytes b n);
     }
 
--- the tables of a sheet
+-- S2: the tables of a sheet
 unfoldable pub tables : List ℕ → Tables
 tables b = tablesOf (front b) (componentCount b) (actionCount b)
 
--- "Its step count is (L - 10 - S) / 8."
+-- S7, N10: how many steps a sheet has
 unfoldable pub stepCount : List ℕ → ℕ
-stepCount b = (length b - 10 - stepsAt b) / 8
+stepCount b = (length b - trailerSize - stepsAt b) / stepSize
 
--- "Steps, 8 bytes each: a set of actions, bit a for action a."
+-- S5: the steps, each a set of actions in eight bytes
 unfoldable pub steps : List ℕ → List ℕ
-steps b = map number (parts 8 (stepCount b) (drop (stepsAt b) b))
+steps b = map number (parts stepSize (stepCount b) (drop (stepsAt b) b))

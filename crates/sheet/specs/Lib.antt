@@ -1,7 +1,10 @@
+pub mod Bounds
 pub mod Numbers
 pub mod Layout
 pub mod Limits
 pub mod Refusals
 pub mod Verdict
 pub mod Writing
+pub mod Cases
+pub mod LimitCases
 pub mod Sections

@@ -8,7 +8,7 @@ use lib.ListN.{take, drop, getD}
 abbrev pub AreBytes : List ℕ → Type 0
 AreBytes b = (i : ℕ) → getD b i 0 < 256
 
--- "Numbers in a sheet are unsigned, least significant byte first."
+-- S1: the number that stands in some bytes, the low byte in front
 abbrev pub number : List ℕ → ℕ
 number [] = 0
 number (d ∷ ds) = d + 256 * number ds

@@ -1,9 +1,9 @@
--- The verdict on a sheet: accepted, or the first refusal in the printed order with its step index.
+-- The verdict on a sheet: accepted, or the first refusal in the printed order with its step index (O1, O3, O4).
 -- Assumes nothing.
 use mathlib.Core.Path.{_≡_}
 use mathlib.Core.Bool.{Bool, true, false}
 use mathlib.Core.List.{List}
-use mathlib.Core.Option.{Option, none, some as just}
+use mathlib.Core.Option.{Option, none, some}
 use Prim.Native.Nat.{ℕ, _<_}
 use lib.ListN.{length, getD}
 use Rattle.systems.specs.Running.{start}
@@ -11,7 +11,7 @@ use Rattle.systems.specs.Checking.{Fault, firstFault, heldBefore, faulty, IsFir
 use Rattle.sheet.specs.Layout.{tables, steps}
 use Rattle.sheet.specs.Refusals.{lengthWrong, markWrong, countsWrong, offsetsWrong, recordsWrong, actionUnused, transitionsWrong, orderWrong, tooManyActions, refusal}
 
--- "A refusal carries its number and a step index from 0 (0 for all but 10 to 12)"
+-- O4: a refusal has a number and the index of a step, counted from 0; the index is 0 up to 9
 pub data Verdict : Type 0 where
   accepted : Verdict
   refused : ℕ → ℕ → Verdict
@@ -22,7 +22,7 @@ refuseIf false k v = v
 
 abbrev pub ofFault : Option Fault → Verdict
 ofFault none = accepted
-ofFault (just f) = refused (f .number) (f .index)
+ofFault (some f) = refused (f .number) (f .index)
 
 -- refusals 10 to 12, from the start
 unfoldable pub stepsVerdict : List ℕ → Verdict
@@ -42,11 +42,11 @@ tablesVerdict b v =
     (refuseIf (tooManyActions b) 9
     v))))
 
--- the first refusal in the printed order, or accepted where there is none (document 01, "Refusal list")
+-- O1: the first refusal in the printed order, or accepted where there is none
 unfoldable pub verdict : List ℕ → Verdict
 verdict b = trailerVerdict b (tablesVerdict b (stepsVerdict b))
 
--- What the verdict is to be, said by the conditions alone.
+-- O1: what the verdict is to be, said by the conditions alone.
 pub data IsVerdict (b : List ℕ) : Verdict → Type 0 where
   -- one of 1 to 9 holds, and none below it
   sheet-refused : (k : ℕ) → refusal b k ≡ true → ((i : ℕ) → i < k → refusal b i ≡ false) → IsVerdict b (refused k 0)
@@ -59,6 +59,6 @@ pub data IsVerdict (b : List ℕ) : Verdict → Type 0 where
       → faulty (tables b) (heldBefore (tables b) (start (tables b)) (steps b) i) (getD (steps b) i 0) k ≡ false)
       → IsVerdict b accepted
 
--- "A sheet is accepted when none of 1 to 12 holds for it."
+-- N1: no refusal from 1 to 12 holds
 abbrev pub Accepted : List ℕ → Type 0
 Accepted b = verdict b ≡ accepted

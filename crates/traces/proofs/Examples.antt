@@ -2,12 +2,13 @@
 -- Words and their normal forms in one table, by computing; swaps and the process condition, each with a case that it refuses.
 -- Assumes nothing.
 use mathlib.Core.Path.{_≡_, refl}
-use mathlib.Core.Bool.{Bool, _&&_, true≢false, false≢true}
+use mathlib.Core.Bool.{Bool, true, false, _&&_, true≢false, false≢true}
 use mathlib.Core.List.{List, [], _∷_, map}
 use Prim.Native.Nat.{ℕ, suc}
 use lib.Dec.{leb}
 use Rattle.traces.specs.Words.{Swap, here}
-use Rattle.traces.specs.Steps.{Process}
+use Rattle.traces.specs.Steps.{clash, Process}
+use Rattle.traces.specs.Offences.{firstOffence, offending}
 use Rattle.traces.specs.Foata.{foata}
 
 abbrev neighbours : ℕ → ℕ → Bool
@@ -61,3 +62,28 @@ not-the-first p = false≢true (p .1 .0)
 -- and so is every action of it: 3 has no cause in the step of 0
 pub not-only-some : ¬ Process neighbours ((0 ∷ []) ∷ (1 ∷ 3 ∷ []) ∷ [])
 not-only-some p = false≢true (p .0)
+
+-- ---- the first step that offends
+
+abbrev offenceSteps : List (List (List ℕ))
+offenceSteps =
+    []
+    ∷ ((3 ∷ []) ∷ [])
+    ∷ ((0 ∷ []) ∷ (1 ∷ []) ∷ (2 ∷ []) ∷ [])
+    ∷ ((0 ∷ []) ∷ (2 ∷ []) ∷ (1 ∷ []) ∷ [])
+    ∷ ((0 ∷ []) ∷ (1 ∷ []) ∷ (3 ∷ []) ∷ [])
+    ∷ ((0 ∷ []) ∷ (1 ∷ 3 ∷ []) ∷ (0 ∷ 3 ∷ []) ∷ (1 ∷ 2 ∷ []) ∷ [])
+    ∷ ((1 ∷ []) ∷ (0 ∷ []) ∷ (2 ∷ []) ∷ [])
+    ∷ []
+
+-- one past the index of the first step that does not follow the one just before, or 0
+pub offences : map (λ ss. offending (firstOffence neighbours ss)) offenceSteps ≡ 0 ∷ 0 ∷ 0 ∷ 2 ∷ 3 ∷ 2 ∷ 3 ∷ []
+offences = refl
+
+-- ---- two dependent actions in one step
+
+abbrev clashSteps : List (List ℕ)
+clashSteps = [] ∷ (1 ∷ []) ∷ (0 ∷ 2 ∷ []) ∷ (1 ∷ 2 ∷ []) ∷ (0 ∷ 2 ∷ 3 ∷ []) ∷ (0 ∷ 3 ∷ 1 ∷ []) ∷ []
+
+pub clashes : map (clash neighbours) clashSteps ≡ false ∷ false ∷ false ∷ true ∷ true ∷ true ∷ []
+clashes = refl

@@ -1,3 +1,4 @@
+pub mod Examples
 pub mod Swaps
 pub mod Sharing
 pub mod Insert
@@ -6,5 +7,4 @@ pub mod Placing
 pub mod Kept
 pub mod WholeSteps
 pub mod NormalForm
-pub mod Examples
 pub mod Offences

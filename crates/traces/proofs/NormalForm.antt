@@ -7,7 +7,7 @@ use mathlib.Core.List.{List, [], _∷_}
 use Prim.Native.Nat.{ℕ, _≤_}
 use native.Mathlib.Omega.{arith}
 use lib.ListN.{length}
-use Rattle.sets.specs.Lists.{concat}
+use Rattle.sets.specs.Lists.{appendAll}
 use Rattle.traces.specs.Words.{Dependence, Related}
 use Rattle.traces.specs.Steps.{Steps, Process}
 use Rattle.traces.specs.Foata.{placeAll, foata}
@@ -18,7 +18,7 @@ use Rattle.traces.proofs.WholeSteps.{steps-length, step-rebuilt, steps-
 
 module _ (dep : ℕ → ℕ → Bool) (D : Dependence dep) where
   -- the normal form is of the word's own trace
-  pub foata-related : (w : List ℕ) → Related dep w (concat (foata dep w))
+  pub foata-related : (w : List ℕ) → Related dep w (appendAll (foata dep w))
   foata-related w = placeAll-related dep D [] w
 
   -- related words have the same normal form, and only they
@@ -37,17 +37,17 @@ module _ (dep : ℕ → ℕ → Bool) (D : Dependence dep) where
   foata-process w = placeAll-process dep D [] w tt
 
   -- steps that meet the process condition are the normal form of their trace
-  pub foata-unique : (ss : List (List ℕ)) → Steps dep ss → Process dep ss → foata dep (concat ss) ≡ ss
+  pub foata-unique : (ss : List (List ℕ)) → Steps dep ss → Process dep ss → foata dep (appendAll ss) ≡ ss
   foata-unique [] S P = refl
   foata-unique (s ∷ ss) S P =
-      placeAll-append dep D [] s (concat ss)
-      ∙ ap (λ (ts : List (List ℕ)). placeAll dep ts (concat ss)) (step-rebuilt dep D s (S .0))
+      placeAll-append dep D [] s (appendAll ss)
+      ∙ ap (λ (ts : List (List ℕ)). placeAll dep ts (appendAll ss)) (step-rebuilt dep D s (S .0))
       ∙ steps-rebuilt dep D [] s ss (S .1) P
 
   -- no steps of the same trace are fewer
-  pub foata-fewest : (ss : List (List ℕ)) (w : List ℕ) → Steps dep ss → Related dep (concat ss) w → length (foata dep w) ≤ length ss
+  pub foata-fewest : (ss : List (List ℕ)) (w : List ℕ) → Steps dep ss → Related dep (appendAll ss) w → length (foata dep w) ≤ length ss
   foata-fewest ss w S r = rw (sym (related-foata r)) (omega (arith, steps-length dep D [] ss S))
 
   -- the normal form of a normal form is itself
-  pub foata-idem : (w : List ℕ) → foata dep (concat (foata dep w)) ≡ foata dep w
+  pub foata-idem : (w : List ℕ) → foata dep (appendAll (foata dep w)) ≡ foata dep w
   foata-idem w = related-foata (related-sym dep D (foata-related w))

@@ -4,7 +4,7 @@ use mathlib.Core.Path.{_≡_, refl, sym, ap, _∙_}
 use mathlib.Core.Logic.{_↔_}
 use mathlib.Core.Bool.{Bool, true, false}
 use mathlib.Core.List.{List, [], _∷_}
-use mathlib.Core.Option.{Option, none, some as just}
+use mathlib.Core.Option.{Option, none, some}
 use Prim.Native.Nat.{ℕ, zero, suc, _+_, _<_}
 use native.Mathlib.Omega.{arith}
 use lib.ListN.{length, getD}
@@ -27,14 +27,14 @@ module _ (dep : ℕ → ℕ → Bool) where
           → (offenceOr (follows dep s t) i (offenceFrom dep t (suc i) ts) ≡ none) ↔ ((follows dep s t ≡ true) × FollowFrom dep t ts)
       go true e h = (λ n. (e, h .0 (ap (λ (f : Bool). offenceOr f i (offenceFrom dep t (suc i) ts)) (sym e) ∙ n)), λ p. rw e (h .1 (p .1)))
       go false e h = (
-        λ n. let z : just i ≡ none = ap (λ (f : Bool). offenceOr f i (offenceFrom dep t (suc i) ts)) (sym e) ∙ n in
+        λ n. let z : some i ≡ none = ap (λ (f : Bool). offenceOr f i (offenceFrom dep t (suc i) ts)) (sym e) ∙ n in
             let c : _≡_ {A = ℕ} 0 1 = cc in absurd (omega arith),
         λ p. absurd (clash (p .0) e),
       )
 
-  from-just : (s : List ℕ) (i : ℕ) (ts : List (List ℕ)) (k : ℕ) → offenceFrom dep s i ts ≡ just k → (d : ℕ) × (k ≡ i + d) × At dep s ts d
-  from-just s i [] k e = let z : _≡_ {A = ℕ} 0 1 = cc in absurd (omega arith)
-  from-just s i (t ∷ ts) k e = go (follows dep s t) refl (from-just t (suc i) ts k)
+  from-some : (s : List ℕ) (i : ℕ) (ts : List (List ℕ)) (k : ℕ) → offenceFrom dep s i ts ≡ some k → (d : ℕ) × (k ≡ i + d) × At dep s ts d
+  from-some s i [] k e = let z : _≡_ {A = ℕ} 0 1 = cc in absurd (omega arith)
+  from-some s i (t ∷ ts) k e = go (follows dep s t) refl (from-some t (suc i) ts k)
     where
       later : follows dep s t ≡ true → (d : ℕ) × (k ≡ suc i + d) × At dep t ts d → (d : ℕ) × (k ≡ i + d) × At dep s (t ∷ ts) d
       later f r =
@@ -46,45 +46,45 @@ module _ (dep : ℕ → ℕ → Bool) where
           earlier zero b = f
           earlier (suc l) b = r .2 .earlier l (omega arith)
 
-      go : (f : Bool) → follows dep s t ≡ f → (offenceFrom dep t (suc i) ts ≡ just k → (d : ℕ) × (k ≡ suc i + d) × At dep t ts d)
+      go : (f : Bool) → follows dep s t ≡ f → (offenceFrom dep t (suc i) ts ≡ some k → (d : ℕ) × (k ≡ suc i + d) × At dep t ts d)
           → (d : ℕ) × (k ≡ i + d) × At dep s (t ∷ ts) d
       go true f h = later f (h (ap (λ (g : Bool). offenceOr g i (offenceFrom dep t (suc i) ts)) (sym f) ∙ e))
       go false f h =
-          let same : just i ≡ just k = ap (λ (g : Bool). offenceOr g i (offenceFrom dep t (suc i) ts)) (sym f) ∙ e in
+          let same : some i ≡ some k = ap (λ (g : Bool). offenceOr g i (offenceFrom dep t (suc i) ts)) (sym f) ∙ e in
           let is : i ≡ k = cc in
           (0, omega arith, record { fits = omega arith; offends = f; earlier = λ l b. absurd (omega arith) })
 
-  just-from : (s : List ℕ) (i : ℕ) (ts : List (List ℕ)) (d : ℕ) → At dep s ts d → offenceFrom dep s i ts ≡ just (i + d)
+  just-from : (s : List ℕ) (i : ℕ) (ts : List (List ℕ)) (d : ℕ) → At dep s ts d → offenceFrom dep s i ts ≡ some (i + d)
   just-from s i [] d a = let f = a .fits in absurd (omega arith)
-  just-from s i (t ∷ ts) zero a = rw (a .offends) (ap just (omega arith))
+  just-from s i (t ∷ ts) zero a = rw (a .offends) (ap some (omega arith))
   just-from s i (t ∷ ts) (suc d) a =
       rw (a .earlier 0 (omega arith))
       (just-from t (suc i) ts d
       (record { fits = (let f = a .fits in omega arith); offends = a .offends; earlier = λ l b. a .earlier (suc l) (omega arith) })
-      ∙ ap just (omega arith))
+      ∙ ap some (omega arith))
 
   pub offence-none : (ss : List (List ℕ)) → (firstOffence dep ss ≡ none) ↔ Process dep ss
   offence-none [] = (λ e. tt, λ p. refl)
   offence-none (s ∷ ss) = from-none s 1 ss
 
-  pub offence-first : (ss : List (List ℕ)) (i : ℕ) → (firstOffence dep ss ≡ just i) ↔ IsFirstOffence dep ss i
+  pub offence-first : (ss : List (List ℕ)) (i : ℕ) → (firstOffence dep ss ≡ some i) ↔ IsFirstOffence dep ss i
   offence-first [] i = (
     λ e. let z : _≡_ {A = ℕ} 0 1 = cc in absurd (omega arith),
     λ f. let b = f .step-below in absurd (omega arith),
   )
   offence-first (s ∷ ss) i = (
-    λ e. let r = from-just s 1 ss i e in let g = r .1 in let f = r .2 .fits in
+    λ e. let r = from-some s 1 ss i e in let g = r .1 in let f = r .2 .fits in
         record { before = r .0; index = omega arith; step-below = omega arith; offends = r .2 .offends; no-earlier = r .2 .earlier },
     λ f. let g = f .index in let b = f .step-below in
-        just-from s 1 ss (f .before) (record { fits = omega arith; offends = f .offends; earlier = f .no-earlier }) ∙ ap just (omega arith),
+        just-from s 1 ss (f .before) (record { fits = omega arith; offends = f .offends; earlier = f .no-earlier }) ∙ ap some (omega arith),
   )
 
 -- ---- the answer as one number
 
 pub offending-none : (o : Option ℕ) → (offending o ≡ 0) ↔ (o ≡ none)
 offending-none none = (λ e. refl, λ e. refl)
-offending-none (just i) = (λ e. absurd (omega arith), λ e. let z : _≡_ {A = ℕ} 0 1 = cc in absurd (omega arith))
+offending-none (some i) = (λ e. absurd (omega arith), λ e. let z : _≡_ {A = ℕ} 0 1 = cc in absurd (omega arith))
 
-pub offending-just : (o : Option ℕ) (i : ℕ) → (offending o ≡ i + 1) ↔ (o ≡ just i)
-offending-just none i = (λ e. absurd (omega arith), λ e. let z : _≡_ {A = ℕ} 0 1 = cc in absurd (omega arith))
-offending-just (just k) i = (λ e. ap just (omega arith), λ e. let same : k ≡ i = cc in omega arith)
+pub offending-some : (o : Option ℕ) (i : ℕ) → (offending o ≡ i + 1) ↔ (o ≡ some i)
+offending-some none i = (λ e. absurd (omega arith), λ e. let z : _≡_ {A = ℕ} 0 1 = cc in absurd (omega arith))
+offending-some (some k) i = (λ e. ap some (omega arith), λ e. let same : k ≡ i = cc in omega arith)

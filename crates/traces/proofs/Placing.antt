@@ -7,14 +7,14 @@ use mathlib.Core.List.{List, [], _∷_, _++_, List·Memᴰ, List·Memᴰ·head, 
 use Prim.Native.Nat.{ℕ, zero, suc, _+_, max}
 use native.Mathlib.Omega.{arith}
 use lib.ListN.{length}
-use Rattle.traces.specs.Words.{Dependence, Swap, here, later, Related, none, swap}
+use Rattle.traces.specs.Words.{Dependence, Swap, here, later, Related, unchanged, swap}
 use Rattle.traces.specs.Foata.{putAt, reach, place, placeAll}
-use Rattle.traces.proofs.Insert.{insert-comm}
+use Rattle.traces.proofs.Insert.{insertSorted-comm}
 use Rattle.traces.proofs.Reach.{reach-miss, reach-append}
 
 pub put-comm : (a i b j : ℕ) (ss : List (List ℕ)) → putAt a i (putAt b j ss) ≡ putAt b j (putAt a i ss)
-put-comm a zero b zero [] = ap (λ (s : List ℕ). s ∷ []) (insert-comm a b [])
-put-comm a zero b zero (s ∷ ss) = ap (λ (t : List ℕ). t ∷ ss) (insert-comm a b s)
+put-comm a zero b zero [] = ap (λ (s : List ℕ). s ∷ []) (insertSorted-comm a b [])
+put-comm a zero b zero (s ∷ ss) = ap (λ (t : List ℕ). t ∷ ss) (insertSorted-comm a b s)
 put-comm a zero b (suc j) [] = refl
 put-comm a zero b (suc j) (s ∷ ss) = refl
 put-comm a (suc i) b zero [] = refl
@@ -45,13 +45,13 @@ module _ (dep : ℕ → ℕ → Bool) (D : Dependence dep) where
   swap-placeAll ss (later {a = a} s) = swap-placeAll (place dep ss a) s
 
   pub related-placeAll : {u v : List ℕ} (ss : List (List ℕ)) → Related dep u v → placeAll dep ss u ≡ placeAll dep ss v
-  related-placeAll ss none = refl
+  related-placeAll ss unchanged = refl
   related-placeAll ss (swap s r) = swap-placeAll ss s ∙ related-placeAll ss r
 
   -- actions that each depend on the last of some steps are placed behind these
   pub placeAll-behind : (ss ts : List (List ℕ)) (w : List ℕ) → ((a : ℕ) → List·Memᴰ a w → reach (dep a) ss ≡ length ss) → placeAll dep (ss ++ ts) w ≡ ss ++ placeAll dep ts w
   placeAll-behind ss ts [] full = refl
-  placeAll-behind ss ts (a ∷ w) full = ap (λ (us : List (List ℕ)). placeAll dep us w) one ∙ placeAll-behind ss (place dep ts a) w (λ b m. full b (List·Memᴰ·tail m))
+  placeAll-behind ss ts (a ∷ w) full = ap (λ (us : List (List ℕ)). placeAll dep us w) placed ∙ placeAll-behind ss (place dep ts a) w (λ b m. full b (List·Memᴰ·tail m))
     where
-      one : place dep (ss ++ ts) a ≡ ss ++ place dep ts a
-      one = ap (λ (k : ℕ). putAt a k (ss ++ ts)) (reach-append (dep a) ss ts (full a (List·Memᴰ·head refl))) ∙ put-append a (reach (dep a) ts) ss ts
+      placed : place dep (ss ++ ts) a ≡ ss ++ place dep ts a
+      placed = ap (λ (k : ℕ). putAt a k (ss ++ ts)) (reach-append (dep a) ss ts (full a (List·Memᴰ·head refl))) ∙ put-append a (reach (dep a) ts) ss ts

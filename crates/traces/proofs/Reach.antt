@@ -8,10 +8,10 @@ use Prim.Native.Nat.{ℕ, zero, suc, _+_, _≤_, _<_, max}
 use native.Mathlib.Omega.{arith}
 use native.Mathlib.Nat.{zero-max}
 use lib.ListN.{length, length-append}
-use Rattle.sets.specs.Lists.{some, concat}
-use Rattle.sets.proofs.Lists.{some-append, some-or}
+use Rattle.sets.specs.Lists.{anyOf, appendAll}
+use Rattle.sets.proofs.Lists.{anyOf-append, anyOf-or}
 use Rattle.traces.specs.Foata.{putAt, further, reach}
-use Rattle.traces.proofs.Insert.{some-insert}
+use Rattle.traces.proofs.Insert.{anyOf-insertSorted}
 
 further-pos : (b : Bool) (m : ℕ) → 0 < m → further b m ≡ suc m
 further-pos b zero h = absurd (omega arith)
@@ -62,41 +62,41 @@ further-max b c (suc m) (suc n) = omega (arith, further-pos (b || c) (max (suc m
 module _ (p q : ℕ → Bool) where
   pub reach-or : (ss : List (List ℕ)) → reach (λ a. p a || q a) ss ≡ max (reach p ss) (reach q ss)
   reach-or [] = refl
-  reach-or (s ∷ ss) = rw (some-or p q s, reach-or ss) (further-max (some p s) (some q s) (reach p ss) (reach q ss))
+  reach-or (s ∷ ss) = rw (anyOf-or p q s, reach-or ss) (further-max (anyOf p s) (anyOf q s) (reach p ss) (reach q ss))
 
 module _ (p : ℕ → Bool) where
   pub reach-le : (ss : List (List ℕ)) → reach p ss ≤ length ss
   reach-le [] = omega arith
-  reach-le (s ∷ ss) = omega (arith, further-le (some p s) (reach p ss), reach-le ss)
+  reach-le (s ∷ ss) = omega (arith, further-le (anyOf p s) (reach p ss), reach-le ss)
 
   pub reach-miss : (a k : ℕ) (ss : List (List ℕ)) → p a ≡ false → reach p (putAt a k ss) ≡ reach p ss
   reach-miss a zero [] e = rw e
-  reach-miss a zero (s ∷ ss) e = rw (some-insert p a s, e)
+  reach-miss a zero (s ∷ ss) e = rw (anyOf-insertSorted p a s, e)
   reach-miss a (suc k) [] e = rw (reach-miss a k [] e)
   reach-miss a (suc k) (s ∷ ss) e = rw (reach-miss a k ss e)
 
   pub reach-hit : (a k : ℕ) (ss : List (List ℕ)) → p a ≡ true → reach p (putAt a k ss) ≡ max (suc k) (reach p ss)
   reach-hit a zero [] e = rw e
-  reach-hit a zero (s ∷ ss) e = rw (some-insert p a s, e) (ap (further true) (sym (zero-max (reach p ss))) ∙ further-max true (some p s) 0 (reach p ss))
+  reach-hit a zero (s ∷ ss) e = rw (anyOf-insertSorted p a s, e) (ap (further true) (sym (zero-max (reach p ss))) ∙ further-max true (anyOf p s) 0 (reach p ss))
   reach-hit a (suc k) [] e = rw (reach-hit a k [] e) (further-max false false (suc k) 0)
-  reach-hit a (suc k) (s ∷ ss) e = rw (reach-hit a k ss e) (further-max false (some p s) (suc k) (reach p ss))
+  reach-hit a (suc k) (s ∷ ss) e = rw (reach-hit a k ss e) (further-max false (anyOf p s) (suc k) (reach p ss))
 
-  pub reach-none : (ss : List (List ℕ)) → reach p ss ≤ 0 → some p (concat ss) ≡ false
+  pub reach-none : (ss : List (List ℕ)) → reach p ss ≤ 0 → anyOf p (appendAll ss) ≡ false
   reach-none [] h = refl
-  reach-none (s ∷ ss) h = some-append p s (concat ss) ∙ go (some p s) refl (reach-none ss (omega (arith, further-ge (some p s) (reach p ss))))
+  reach-none (s ∷ ss) h = anyOf-append p s (appendAll ss) ∙ go (anyOf p s) refl (reach-none ss (omega (arith, further-ge (anyOf p s) (reach p ss))))
     where
-      go : (b : Bool) → some p s ≡ b → some p (concat ss) ≡ false → (some p s || some p (concat ss)) ≡ false
+      go : (b : Bool) → anyOf p s ≡ b → anyOf p (appendAll ss) ≡ false → (anyOf p s || anyOf p (appendAll ss)) ≡ false
       go true e r = absurd (omega (arith, further-true (reach p ss), rw e at h))
       go false e r = rw (e, r)
 
   -- steps whose last one has an action that passes
-  pub reach-last : (ss : List (List ℕ)) (s : List ℕ) → some p s ≡ true → reach p (ss ++ s ∷ []) ≡ length (ss ++ s ∷ [])
+  pub reach-last : (ss : List (List ℕ)) (s : List ℕ) → anyOf p s ≡ true → reach p (ss ++ s ∷ []) ≡ length (ss ++ s ∷ [])
   reach-last [] s e = rw e
-  reach-last (t ∷ ss) s e = further-pos (some p t) (reach p (ss ++ s ∷ [])) (omega (arith, reach-last ss s e, length-append ss (s ∷ []))) ∙ ap suc (reach-last ss s e)
+  reach-last (t ∷ ss) s e = further-pos (anyOf p t) (reach p (ss ++ s ∷ [])) (omega (arith, reach-last ss s e, length-append ss (s ∷ []))) ∙ ap suc (reach-last ss s e)
 
   pub reach-append : (ss ts : List (List ℕ)) → reach p ss ≡ length ss → reach p (ss ++ ts) ≡ length ss + reach p ts
   reach-append [] ts e = omega arith
   reach-append (s ∷ ss) ts e =
-      let full : reach p ss ≡ length ss = omega (arith, further-le (some p s) (reach p ss), reach-le ss) in
-      let here = further-add (some p s) (length ss) (reach p ts) (ap (further (some p s)) (sym full) ∙ e) in
+      let full : reach p ss ≡ length ss = omega (arith, further-le (anyOf p s) (reach p ss), reach-le ss) in
+      let here = further-add (anyOf p s) (length ss) (reach p ts) (ap (further (anyOf p s)) (sym full) ∙ e) in
       rw (reach-append ss ts full) (omega arith)

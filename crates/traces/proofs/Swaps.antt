@@ -7,15 +7,15 @@ use mathlib.Core.Bool.{Bool, false}
 use mathlib.Core.List.{List, [], _∷_, _++_, List·Memᴰ, List·Memᴰ·head, List·Memᴰ·tail, List·Memᴰ·not-nil, List·Memᴰ·cases-cons, Memᴰ·cast}
 use Prim.Native.Nat.{ℕ}
 use lib.ListN.{length}
-use Rattle.sets.specs.Lists.{some, Distinct}
+use Rattle.sets.specs.Lists.{anyOf, Distinct}
 use Rattle.sets.proofs.Bools.{clash as both-ways, or-false}
-use Rattle.sets.proofs.Lists.{some-false}
-use Rattle.traces.specs.Words.{Dependence, Swap, here, later, Related, none, swap}
+use Rattle.sets.proofs.Lists.{anyOf-false}
+use Rattle.traces.specs.Words.{Dependence, Swap, here, later, Related, unchanged, swap}
 use Rattle.traces.specs.Steps.{clash}
 
 module _ (dep : ℕ → ℕ → Bool) (D : Dependence dep) where
   pub related-trans : {u v w : List ℕ} → Related dep u v → Related dep v w → Related dep u w
-  related-trans none r = r
+  related-trans unchanged r = r
   related-trans (swap s q) r = swap s (related-trans q r)
 
   pub swap-sym : {u v : List ℕ} → Swap dep u v → Swap dep v u
@@ -23,11 +23,11 @@ module _ (dep : ℕ → ℕ → Bool) (D : Dependence dep) where
   swap-sym (later s) = later (swap-sym s)
 
   pub related-sym : {u v : List ℕ} → Related dep u v → Related dep v u
-  related-sym none = none
-  related-sym (swap s r) = related-trans (related-sym r) (swap (swap-sym s) none)
+  related-sym unchanged = unchanged
+  related-sym (swap s r) = related-trans (related-sym r) (swap (swap-sym s) unchanged)
 
   pub related-later : (a : ℕ) {u v : List ℕ} → Related dep u v → Related dep (a ∷ u) (a ∷ v)
-  related-later a none = none
+  related-later a unchanged = unchanged
   related-later a (swap s r) = swap (later s) (related-later a r)
 
   pub related-before : (w : List ℕ) {u v : List ℕ} → Related dep u v → Related dep (w ++ u) (w ++ v)
@@ -39,7 +39,7 @@ module _ (dep : ℕ → ℕ → Bool) (D : Dependence dep) where
   swap-behind w (later s) = later (swap-behind w s)
 
   pub related-behind : {u v : List ℕ} (w : List ℕ) → Related dep u v → Related dep (u ++ w) (v ++ w)
-  related-behind w none = none
+  related-behind w unchanged = unchanged
   related-behind w (swap s r) = swap (swap-behind w s) (related-behind w r)
 
   swap-mem : {u v : List ℕ} {a : ℕ} → Swap dep u v → List·Memᴰ a u → List·Memᴰ a v
@@ -59,7 +59,7 @@ module _ (dep : ℕ → ℕ → Bool) (D : Dependence dep) where
       go f (inr n) = List·Memᴰ·tail (f n)
 
   pub related-mem : {u v : List ℕ} {a : ℕ} → Related dep u v → List·Memᴰ a u → List·Memᴰ a v
-  related-mem none m = m
+  related-mem unchanged m = m
   related-mem (swap s r) m = related-mem r (swap-mem s m)
 
   swap-length : {u v : List ℕ} → Swap dep u v → length u ≡ length v
@@ -67,7 +67,7 @@ module _ (dep : ℕ → ℕ → Bool) (D : Dependence dep) where
   swap-length (later s) = rw (swap-length s)
 
   pub related-length : {u v : List ℕ} → Related dep u v → length u ≡ length v
-  related-length none = refl
+  related-length unchanged = refl
   related-length (swap s r) = swap-length s ∙ related-length r
 
   swap-distinct : {u v : List ℕ} → Swap dep u v → Distinct u → Distinct v
@@ -82,38 +82,38 @@ module _ (dep : ℕ → ℕ → Bool) (D : Dependence dep) where
   swap-distinct (later s) d = (λ m. d .0 (swap-mem (swap-sym s) m), swap-distinct s (d .1))
 
   pub related-distinct : {u v : List ℕ} → Related dep u v → Distinct u → Distinct v
-  related-distinct none d = d
+  related-distinct unchanged d = d
   related-distinct (swap s r) d = related-distinct r (swap-distinct s d)
 
   -- an action independent of a word passes it
-  pub pass-related : (a : ℕ) (u : List ℕ) → some (dep a) u ≡ false → Related dep (a ∷ u) (u ++ a ∷ [])
-  pass-related a [] e = none
+  pub pass-related : (a : ℕ) (u : List ℕ) → anyOf (dep a) u ≡ false → Related dep (a ∷ u) (u ++ a ∷ [])
+  pass-related a [] e = unchanged
   pass-related a (b ∷ u) e =
-      let both = or-false (dep a b) (some (dep a) u) .0 e in
+      let both = or-false (dep a b) (anyOf (dep a) u) .0 e in
       swap (here (both .0)) (related-later b (pass-related a u (both .1)))
 
   -- an action independent of all others of the word may stand first
   draw : {a : ℕ} {v : List ℕ} → List·Memᴰ a v → ((b : ℕ) → List·Memᴰ b v → b ≢ a → dep b a ≡ false) → Distinct v → (r : List ℕ) × Related dep v (a ∷ r)
-  draw {a} (List·Memᴰ·head {xs = v} q) far d = (v, subst (λ (b : ℕ). Related dep (b ∷ v) (a ∷ v)) q none)
+  draw {a} (List·Memᴰ·head {xs = v} q) far d = (v, subst (λ (b : ℕ). Related dep (b ∷ v) (a ∷ v)) q unchanged)
   draw {a} (List·Memᴰ·tail {x = b} {xs = v} m) far d =
       let (r, q) = draw m (λ c n. far c (List·Memᴰ·tail n)) (d .1) in
       let e : dep b a ≡ false = far b (List·Memᴰ·head refl) (λ p. d .0 (Memᴰ·cast p m)) in
-      (b ∷ r, related-trans (related-later b q) (swap (here e) none))
+      (b ∷ r, related-trans (related-later b q) (swap (here e) unchanged))
 
   -- any two orders of one independent step are related
   pub orders-related : (u v : List ℕ) → clash dep u ≡ false → Distinct v → ((a : ℕ) → List·Memᴰ a u ↔ List·Memᴰ a v) → Related dep u v
-  orders-related [] [] c d same = none
+  orders-related [] [] c d same = unchanged
   orders-related [] (b ∷ v) c d same = absurd (List·Memᴰ·not-nil (same b .1 (List·Memᴰ·head refl)))
   orders-related (a ∷ u) v c d same = go (λ r. orders-related u r (both .1))
     where
-      both : (some (dep a) u ≡ false) × (clash dep u ≡ false)
-      both = or-false (some (dep a) u) (clash dep u) .0 c
+      both : (anyOf (dep a) u ≡ false) × (clash dep u ≡ false)
+      both = or-false (anyOf (dep a) u) (clash dep u) .0 c
 
       other : {b : ℕ} → List·Memᴰ b (a ∷ u) → b ≢ a → List·Memᴰ b u
       other m ne = elim (List·Memᴰ·cases-cons m) [ inl q ↦ absurd (ne q) | inr n ↦ n ]
 
       drawn : (r : List ℕ) × Related dep v (a ∷ r)
-      drawn = draw (same a .0 (List·Memᴰ·head refl)) (λ b m ne. D .symmetric b a ∙ some-false (dep a) u (both .0) (other (same b .1 m) ne)) d
+      drawn = draw (same a .0 (List·Memᴰ·head refl)) (λ b m ne. D .symmetric b a ∙ anyOf-false (dep a) u (both .0) (other (same b .1 m) ne)) d
 
       r : List ℕ
       r = drawn .0
@@ -121,7 +121,7 @@ module _ (dep : ℕ → ℕ → Bool) (D : Dependence dep) where
       there : (b : ℕ) → List·Memᴰ b u → List·Memᴰ b r
       there b m =
           elim (List·Memᴰ·cases-cons (related-mem (drawn .1) (same b .0 (List·Memᴰ·tail m)))) [
-            | inl q ↦ absurd (both-ways (ap (dep a) q ∙ D .reflexive a) (some-false (dep a) u (both .0) m))
+            | inl q ↦ absurd (both-ways (ap (dep a) q ∙ D .reflexive a) (anyOf-false (dep a) u (both .0) m))
             | inr n ↦ n
           ]
 

@@ -4,17 +4,17 @@ use mathlib.Core.Bool.{Bool, true, false, cond}
 use mathlib.Core.List.{List, [], _∷_}
 use Prim.Native.Nat.{ℕ, zero, suc}
 use lib.Dec.{leb}
-use Rattle.sets.specs.Lists.{some}
+use Rattle.sets.specs.Lists.{anyOf}
 
 -- the action at its place in a rising step
-abbrev pub insert : ℕ → List ℕ → List ℕ
-insert a [] = a ∷ []
-insert a (b ∷ s) = cond (leb a b) (a ∷ b ∷ s) (b ∷ insert a s)
+abbrev pub insertSorted : ℕ → List ℕ → List ℕ
+insertSorted a [] = a ∷ []
+insertSorted a (b ∷ s) = cond (leb a b) (a ∷ b ∷ s) (b ∷ insertSorted a s)
 
 -- the action put into the step with index k; where there are too few steps, behind as many empty ones as it takes
 abbrev pub putAt : ℕ → ℕ → List (List ℕ) → List (List ℕ)
 putAt a zero [] = (a ∷ []) ∷ []
-putAt a zero (s ∷ ss) = insert a s ∷ ss
+putAt a zero (s ∷ ss) = insertSorted a s ∷ ss
 putAt a (suc k) [] = [] ∷ putAt a k []
 putAt a (suc k) (s ∷ ss) = s ∷ putAt a k ss
 
@@ -27,7 +27,7 @@ further false zero = 0
 -- one past the index of the last step in which some action passes the test; 0 where there is none
 abbrev pub reach : (ℕ → Bool) → List (List ℕ) → ℕ
 reach p [] = 0
-reach p (s ∷ ss) = further (some p s) (reach p ss)
+reach p (s ∷ ss) = further (anyOf p s) (reach p ss)
 
 module _ (dep : ℕ → ℕ → Bool) where
   -- the action put into the earliest step that no dependent action bars: just behind the last one that has such an action
@@ -39,6 +39,6 @@ module _ (dep : ℕ → ℕ → Bool) where
   placeAll ss [] = ss
   placeAll ss (a ∷ w) = placeAll (place ss a) w
 
-  -- the normal form
+  -- N8: the normal form
   abbrev pub foata : List ℕ → List (List ℕ)
   foata w = placeAll [] w

@@ -10,8 +10,8 @@ use native.Mathlib.Omega.{arith}
 use lib.ListN.{length, take, drop, set, getD, length-append, length-drop, drop-of-length-le}
 use lib.Seq.{take-at, drop-at, take-all, drop-drop, drop-cons, set-at, take-suc, length-take-le}
 use borrow.Rule.Slice.PartMut.{midOf, putMid}
-use Rattle.sets.specs.Lists.{concat}
-use Rattle.sets.proofs.Lists.{concat-append}
+use Rattle.sets.specs.Lists.{appendAll}
+use Rattle.sets.proofs.Lists.{appendAll-append}
 use Rattle.sheet.specs.Numbers.{bytes}
 use Rattle.sheet.specs.Writing.{stepBytes}
 use Rattle.sheet.proofs.Numbers.{length-numbers}
@@ -73,8 +73,8 @@ steps-length k xs h = length-numbers 8 (take k xs) ∙ ap (λ (j : ℕ). 8 * j) 
 pub steps-next : (k : ℕ) (xs : List ℕ) → k < length xs → stepBytes (take k xs) ++ bytes 8 (getD xs k 0) ≡ stepBytes (take (k + 1) xs)
 steps-next k xs h =
     ap (λ (l : List ℕ). stepBytes (take k xs) ++ l) (sym (append-nil (bytes 8 x)))
-    ∙ sym (concat-append (map (bytes 8) (take k xs)) (bytes 8 x ∷ []))
-    ∙ ap concat (sym (map-append (bytes 8) (take k xs) (x ∷ [])))
+    ∙ sym (appendAll-append (map (bytes 8) (take k xs)) (bytes 8 x ∷ []))
+    ∙ ap appendAll (sym (map-append (bytes 8) (take k xs) (x ∷ [])))
     ∙ ap stepBytes (sym (take-suc xs k 0 h) ∙ ap (λ (j : ℕ). take j xs) (sym (add-one k)))
   where
     x : ℕ

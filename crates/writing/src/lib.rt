@@ -70,7 +70,7 @@ fn write_steps(packed: &[u64], count: usize, s: usize, n: u8, m: u8, out: &mut [
     write_trailer(s, n, m, &mut out[8 * count..]);
 }
 
-// Writes a sheet: the bytes before its steps as they are, then the rest of the output is lent to the writer of the steps.
+// N9, F4: writes a sheet: the bytes before its steps as they are; the rest of the output is then lent on, to be filled with the steps.
 pub fn write_sheet(front: &[u8], packed: &[u64], count: usize, n: u8, m: u8, out: &mut [u8])
     requires { ⌜ (length (now front) < 65536) × (count ≤ length (now packed)) × (count ≤ 1024)
         × (length (now front) + 8 * count + 10 ≤ length (now out)) ⌝ }

@@ -14,10 +14,10 @@ use Rattle.answers.specs.declared.Sizes.{Sizes}
 use Rattle.answers.specs.declared.Answer.{Answer}
 use Rattle.answers.specs.Related.{SameTables}
 use Rattle.answers.specs.Outcomes.{Outcome, given, refused, outcomeOf, onSheet, sizesOf, readOutcome}
-use Rattle.answers.specs.TwoSheets.{tablesDiffer, unlessDiffer, ofPair}
+use Rattle.answers.specs.TwoSheets.{tablesDiffer, unlessDiffer, ofTwo}
 use Rattle.answers.proofs.Passing.{NotAccepted, NotRefused, told-refused}
 use Rattle.answers.proofs.Restated.{accepted-limits}
-use Rattle.answers.proofs.TwoSheets.{differ-false, pair-apart, pair-given}
+use Rattle.answers.proofs.TwoSheets.{differ-false, two-apart, two-given}
 use Rattle.desk.specs.AcceptedSheet.{AcceptedSheet}
 use Rattle.desk.proofs.Accepted.{accepted-sheet}
 
@@ -51,9 +51,6 @@ second-told c a z q e = accepted-sheet c z (go (verdict c) (ap outcomeOf (sym q)
     go Verdict.accepted h = h
     go (Verdict.refused k i) h = let z : _≡_ {A = ℕ} 0 1 = cc in absurd (omega arith)
 
-pub first-told : (b : List ℕ) (a : Answer) (z : Sizes) → a ≡ Answer.Accepted z → outcomeOf a ≡ readOutcome b (verdict b) → AcceptedSheet b z
-first-told b a z q e = accepted-sheet b z (ap outcomeOf (sym q) ∙ e)
-
 -- ---- the check of both
 
 -- an answer that is not accepted is passed on as it is, whatever would come after
@@ -68,20 +65,20 @@ module _ (b c : List ℕ) where
   abbrev tables-next : Outcome (List ℕ)
   tables-next = unlessDiffer (tablesDiffer b c) (sizesOf b)
 
-  pub first-stops : (a : Answer) → NotAccepted a → outcomeOf a ≡ readOutcome b (verdict b) → outcomeOf a ≡ ofPair b c (sizesOf b)
-  unfolding ofPair
+  pub first-stops : (a : Answer) → NotAccepted a → outcomeOf a ≡ readOutcome b (verdict b) → outcomeOf a ≡ ofTwo b c (sizesOf b)
+  unfolding ofTwo
   first-stops a h e = stays a h 0 (verdict b) (componentCount b) (actionCount b) (transitionsAt b) (stepsAt b) e (onSheet 1 (verdict c) tables-next)
 
   pub second-stops : Accepted b → (a : Answer) → NotAccepted a → outcomeOf a ≡ onSheet 1 (verdict c) (given (sizesOf c))
-      → outcomeOf a ≡ ofPair b c (sizesOf b)
-  unfolding ofPair
+      → outcomeOf a ≡ ofTwo b c (sizesOf b)
+  unfolding ofTwo
   second-stops acc a h e = rw acc (stays a h 1 (verdict c) (componentCount c) (actionCount c) (transitionsAt c) (stepsAt c) e tables-next)
 
-  pub tables-stop : Accepted b → Accepted c → tablesDiffer b c ≡ true → refused 14 0 0 ≡ ofPair b c (sizesOf b)
-  tables-stop acc acc′ e = sym (pair-apart b c (sizesOf b) acc acc′ (λ t. clash e (differ-false b c .1 t)))
+  pub tables-stop : Accepted b → Accepted c → tablesDiffer b c ≡ true → refused 14 0 0 ≡ ofTwo b c (sizesOf b)
+  tables-stop acc acc′ e = sym (two-apart b c (sizesOf b) acc acc′ (λ t. clash e (differ-false b c .1 t)))
 
-  pub pair-passes : (z : Sizes) → AcceptedSheet b z → Accepted c → tablesDiffer b c ≡ false → given (listed z) ≡ ofPair b c (sizesOf b)
-  pair-passes z r acc e = sym (pair-given b c (sizesOf b) (listed z) .1 (r .sheet-accepted, acc, differ-false b c .0 e, told))
+  pub two-pass : (z : Sizes) → AcceptedSheet b z → Accepted c → tablesDiffer b c ≡ false → given (listed z) ≡ ofTwo b c (sizesOf b)
+  two-pass z r acc e = sym (two-given b c (sizesOf b) (listed z) .1 (r .sheet-accepted, acc, differ-false b c .0 e, told))
     where
       told : sizesOf b ≡ listed z
       told = rw (r .n-read, r .m-read, r .t-read, r .s-read) refl
@@ -89,16 +86,16 @@ module _ (b c : List ℕ) where
 -- ---- a pair that passed, and one that was refused
 
 -- both sheets have the same sizes and the same tables
-pub record PassedPair (b c : List ℕ) (z : Sizes) : Type 0 where
+pub record BothPassed (b c : List ℕ) (z : Sizes) : Type 0 where
   pub first-accepted : AcceptedSheet b z
   pub second-accepted : AcceptedSheet c z
   pub same-tables : SameTables b c
 
-pub passed-pair : (b c : List ℕ) (a : Answer) (z : Sizes) → a ≡ Answer.Accepted z → outcomeOf a ≡ ofPair b c (sizesOf b) → PassedPair b c z
-passed-pair b c a z q e = record { first-accepted = one; second-accepted = accepted-sheet c z second; same-tables = same }
+pub both-passed : (b c : List ℕ) (a : Answer) (z : Sizes) → a ≡ Answer.Accepted z → outcomeOf a ≡ ofTwo b c (sizesOf b) → BothPassed b c z
+both-passed b c a z q e = record { first-accepted = one; second-accepted = accepted-sheet c z second; same-tables = same }
   where
     all : Accepted b × Accepted c × SameTables b c × (sizesOf b ≡ listed z)
-    all = pair-given b c (sizesOf b) (listed z) .0 (sym (ap outcomeOf (sym q) ∙ e))
+    all = two-given b c (sizesOf b) (listed z) .0 (sym (ap outcomeOf (sym q) ∙ e))
 
     same : SameTables b c
     same = all .2
@@ -121,23 +118,23 @@ passed-pair b c a z q e = record { first-accepted = one; second-accepted = accep
     second = told c (all .1) (sym (all .3) ∙ rw (same .same-components, same .same-actions, third, same .same-steps-at) refl)
 
 -- the answer is a refusal, and the pair gets it whatever it would get
-pub record RefusedPair (b c : List ℕ) (a : Answer) : Type 0 where
+pub record TwoRefused (b c : List ℕ) (a : Answer) : Type 0 where
   pub number : ℕ
   pub index : ℕ
   pub sheet : ℕ
   pub answer-told : a ≡ Answer.Refused number index sheet
-  pub pair-told : refused number index sheet ≡ ofPair b c (sizesOf b)
+  pub two-told : refused number index sheet ≡ ofTwo b c (sizesOf b)
 
-pub refused-pair : (b c : List ℕ) (a : Answer) → NotAccepted a → outcomeOf a ≡ ofPair b c (sizesOf b) → RefusedPair b c a
-refused-pair b c (Answer.Accepted z) h e = elim h [ inl q ↦ absurd (omega arith) | inr q ↦ absurd (omega arith) ]
-refused-pair b c (Answer.Given y) h e =
-    let told = pair-given b c (sizesOf b) (y ∷ []) .0 (sym e) .3 in
+pub refused-two : (b c : List ℕ) (a : Answer) → NotAccepted a → outcomeOf a ≡ ofTwo b c (sizesOf b) → TwoRefused b c a
+refused-two b c (Answer.Accepted z) h e = elim h [ inl q ↦ absurd (omega arith) | inr q ↦ absurd (omega arith) ]
+refused-two b c (Answer.Given y) h e =
+    let told = two-given b c (sizesOf b) (y ∷ []) .0 (sym e) .3 in
     let z : _≡_ {A = ℕ} 0 1 = cc in
     absurd (omega arith)
-refused-pair b c (Answer.Refused k i s) h e = record { number = k; index = i; sheet = s; answer-told = refl; pair-told = e }
+refused-two b c (Answer.Refused k i s) h e = record { number = k; index = i; sheet = s; answer-told = refl; two-told = e }
 
-pub refused-alike : {A B : Type 0} (b c : List ℕ) (x : A) (y : B) (k i s : ℕ) → refused k i s ≡ ofPair b c x → refused k i s ≡ ofPair b c y
-unfolding ofPair
+pub refused-alike : {A B : Type 0} (b c : List ℕ) (x : A) (y : B) (k i s : ℕ) → refused k i s ≡ ofTwo b c x → refused k i s ≡ ofTwo b c y
+unfolding ofTwo
 refused-alike {A} {B} b c x y k i s e = go (verdict b) (verdict c) (tablesDiffer b c) e
   where
     go : (v w : Verdict) (d : Bool) → refused k i s ≡ onSheet 0 v (onSheet 1 w (unlessDiffer d x))

@@ -4,14 +4,14 @@
 use mathlib.Core.Path.{_≡_, refl, sym, ap, ap₂, _∙_}
 use mathlib.Core.Bool.{Bool, true, false}
 use mathlib.Core.List.{List, [], _∷_, map, List·Memᴰ, List·Memᴰ·head, List·Memᴰ·tail, Memᴰ·cast}
-use mathlib.Core.Option.{none, some as just}
+use mathlib.Core.Option.{none, some}
 use Prim.Native.Nat.{ℕ, zero, suc, _+_, _-_, _*_, _/_, _<_, _≤_}
 use native.Mathlib.Numerals.{add-one}
 use native.Mathlib.Omega.{arith}
 use lib.ListN.{length, getD, drop, drop-of-length-le, length-map, List·getD-map}
 use lib.Seq.{drop-cons}
 use Rattle.sets.specs.Bits.{members}
-use Rattle.sets.proofs.Lists.{mem-concat}
+use Rattle.sets.proofs.Lists.{mem-appendAll}
 use Rattle.sets.proofs.Members.{members-zero}
 use Rattle.traces.specs.Steps.{follows}
 use Rattle.systems.specs.Checking.{flat}
@@ -43,7 +43,7 @@ module _ (dep : ℕ → ℕ → Bool) where
           ∙ ap (offenceFrom dep (getD ss (k - 1) []) k) (drop-cons ss k [] inside)
           ∙ ap₂ (λ (p q : List ℕ). offenceOr (follows dep p q) k (offenceFrom dep q (suc k) (drop (suc k) ss))) before here
 
-      left-found : follows dep s t ≡ false → firstOffence dep ss ≡ just k
+      left-found : follows dep s t ≡ false → firstOffence dep ss ≡ some k
       left-found f = next ∙ ap (λ (b : Bool). offenceOr b k (offenceFrom dep t (suc k) (drop (suc k) ss))) f
 
       left-next : follows dep s t ≡ true → Left dep ss (k + 1)
@@ -75,7 +75,7 @@ module _ (b : List ℕ) where
 
     -- its actions are among those of the section
     pub section-known : (T : Tables) → WordOver T (flat (stepsIn b)) → WordOver T (members x)
-    section-known T known a m = known a (mem-concat (map members (stepsIn b)) .1 (members x, Memᴰ·cast (sym section-at) step, m))
+    section-known T known a m = known a (mem-appendAll (map members (stepsIn b)) .1 (members x, Memᴰ·cast (sym section-at) step, m))
       where
         step : List·Memᴰ (getD (map members (stepsIn b)) i []) (map members (stepsIn b))
         step = getD-mem (map members (stepsIn b)) i [] (rw section-length inside)
@@ -87,7 +87,7 @@ module _ (b : List ℕ) where
     -- the step k and the one just before it, as they were read and compared
     module _ (x y : ℕ) (r : Bool) (first : 1 ≤ k) (inside : k < length b / 8) (before : x ≡ field (8 * (k - 1)) 8 b) (here : y ≡ field (8 * k) 8 b)
         (compared : r ≡ follows dep (members x) (members y)) where
-      pub section-found : r ≡ false → firstOffence dep (map members (stepsIn b)) ≡ just k
+      pub section-found : r ≡ false → firstOffence dep (map members (stepsIn b)) ≡ some k
       section-found e =
           left-found dep (map members (stepsIn b)) k left (members x) (members y) (rw section-length inside)
           (section-at (k - 1) x (omega arith) before) (section-at k y inside here) (sym compared ∙ e)

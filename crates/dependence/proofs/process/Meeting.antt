@@ -11,10 +11,10 @@ use native.Mathlib.Omega.{arith}
 use lib.Dec.{eqb}
 use lib.Bits.{bitOr, bitAnd}
 use lib.ListN.{getD}
-use Rattle.sets.specs.Lists.{some}
+use Rattle.sets.specs.Lists.{anyOf}
 use Rattle.sets.specs.Bits.{member, members}
 use Rattle.sets.proofs.Bools.{clash, iff-bool, or-true, eqb-true, eqb-false}
-use Rattle.sets.proofs.Lists.{every-intro, every-elim}
+use Rattle.sets.proofs.Lists.{allOf-intro, allOf-elim}
 use Rattle.sets.proofs.Members.{member-zero, member-or, member-ext, member-lt, members-mem}
 use Rattle.traces.specs.Steps.{follows}
 use Rattle.dependence.proofs.Dependence.{whereMet, UnionMet}
@@ -50,15 +50,15 @@ module _ (l : List ℕ) (y : ℕ) where
 
 -- r has those actions of the step y that depend on some action of the step x
 module _ (dep : ℕ → ℕ → Bool) (x y r : ℕ) (fits : y < 2 ^ 64)
-    (exact : (a : ℕ) → List·Memᴰ a (members y) → member r a ≡ some (dep a) (members x)) where
-  within : bitOr y r ≡ r → (a : ℕ) → List·Memᴰ a (members y) → some (dep a) (members x) ≡ true
+    (exact : (a : ℕ) → List·Memᴰ a (members y) → member r a ≡ anyOf (dep a) (members x)) where
+  within : bitOr y r ≡ r → (a : ℕ) → List·Memᴰ a (members y) → anyOf (dep a) (members x) ≡ true
   within e a m =
       sym (exact a m) ∙ ap (λ (z : ℕ). member z a) (sym e) ∙ member-or y r a
       ∙ or-true (member y a) (member r a) .1 (inl (members-mem y a .0 m .1))
 
   pub follows-union : eqb (bitOr y r) r ≡ follows dep (members x) (members y)
   follows-union = iff-bool (eqb (bitOr y r) r) (follows dep (members x) (members y)) (
-    λ e. every-intro (λ a. some (dep a) (members x)) (members y) (within (eqb-true (bitOr y r) r .0 e)),
+    λ e. allOf-intro (λ a. anyOf (dep a) (members x)) (members y) (within (eqb-true (bitOr y r) r .0 e)),
     λ f. eqb-true (bitOr y r) r .1 (member-ext (bitOr y r) r (λ a. iff-bool (member (bitOr y r) a) (member r a) (
       λ m. go f a (or-true (member y a) (member r a) .0 (sym (member-or y r a) ∙ m)),
       λ m. member-or y r a ∙ or-true (member y a) (member r a) .1 (inr m),
@@ -68,5 +68,5 @@ module _ (dep : ℕ → ℕ → Bool) (x y r : ℕ) (fits : y < 2 ^ 64)
       go : follows dep (members x) (members y) ≡ true → (a : ℕ) → (member y a ≡ true) ⊎ (member r a ≡ true) → member r a ≡ true
       go f a (inl h) =
           let m = members-mem y a .1 (member-lt 64 y a fits h, h) in
-          exact a m ∙ every-elim (λ a. some (dep a) (members x)) (members y) f a m
+          exact a m ∙ allOf-elim (λ a. anyOf (dep a) (members x)) (members y) f a m
       go f a (inr h) = h

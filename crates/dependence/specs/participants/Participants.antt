@@ -1,4 +1,4 @@
--- The participants of each action, the components whose alphabets have it (002), in an array.
+-- N3: the participants of each action, the components whose alphabets have it, in an array.
 -- Assumes nothing.
 use mathlib.Core.Path.{_≡_}
 use mathlib.Core.Logic.{_↔_, _⊎_}

@@ -4,16 +4,14 @@ use mathlib.Core.Path.{_≡_, sym, ap, ap₂, _∙_}
 use mathlib.Core.List.{List, map}
 use Prim.Native.Nat.{ℕ, _-_, _≤_}
 use native.Mathlib.Omega.{arith}
-use lib.ListN.{length, take, drop, replicate, length-map, length-append, length-replicate}
+use lib.ListN.{length, take, replicate, length-map, length-append, length-replicate}
 use lib.Seq.{take-append-seam}
 use Rattle.sets.specs.Bits.{setOf}
 use Rattle.traces.specs.Foata.{foata}
-use Rattle.systems.specs.Tables.{Tables}
 use Rattle.systems.specs.Checking.{flat}
 use Rattle.systems.specs.Independence.{dependent}
 use Rattle.sheet.specs.Layout.{tablesOf, tables, steps}
-use Rattle.sheet.specs.Sections.{Alphabets}
-use Rattle.dependence.specs.participants.Participants.{Participants, OfSixteen}
+use Rattle.dependence.specs.participants.Participants.{OfSixteen}
 use Rattle.dependence.proofs.participants.Entering.{participants-sixteen}
 use Rattle.normal_form.specs.HoldsFoata.{HoldsFoata}
 use Rattle.answers.specs.declared.Sizes.{Sizes}
@@ -21,18 +19,8 @@ use Rattle.answers.specs.Restated.{restatedSteps}
 use Rattle.answers.proofs.Restated.{restated-normal, accepted-limits}
 use Rattle.desk.specs.AcceptedSheet.{AcceptedSheet}
 use Rattle.desk.specs.Left.{ParticipantsLeft, PackedSteps}
-use Rattle.desk.proofs.Accepted.{readSteps, section-told, alphabets-told}
-
--- the participants of each action by the alphabets that were read
-pub participants-read : (b : List ℕ) (z : Sizes) → AcceptedSheet b z → (l : List ℕ)
-    → Alphabets (tablesOf (take (z .t - 0) (drop 0 b)) (z .n) (z .m)) (z .n) l
-    → (o : List ℕ) → ((T : Tables) → Alphabets T (z .n) l → Participants T o) → ParticipantsLeft b o
-participants-read b z r l A o O acc = O (tables b) (alphabets-told b z r l A)
 
 module _ (b : List ℕ) (z : Sizes) (k : AcceptedSheet b z) (o : List ℕ) (p : ParticipantsLeft b o) where
-  section-same : readSteps b (z .s) ≡ steps b
-  section-same = section-told b z k
-
   few : tables b .components ≤ 16
   unfolding tables tablesOf
   few = accepted-limits b (k .sheet-accepted) .components-high
@@ -41,13 +29,13 @@ module _ (b : List ℕ) (z : Sizes) (k : AcceptedSheet b z) (o : List ℕ) (p : 
   pub sheet-sixteen : OfSixteen o
   sheet-sixteen = participants-sixteen (tables b) o (p (k .sheet-accepted)) few
 
-  module _ (packed : List ℕ) (count : ℕ) (h : HoldsFoata (dependent (tables b)) (flat (readSteps b (z .s))) packed count) where
+  module _ (xs : List ℕ) (same : xs ≡ steps b) (packed : List ℕ) (count : ℕ) (h : HoldsFoata (dependent (tables b)) (flat xs) packed count) where
     -- the normal form of the actions read
     abbrev placed : List (List ℕ)
-    placed = foata (dependent (tables b)) (flat (readSteps b (z .s)))
+    placed = foata (dependent (tables b)) (flat xs)
 
     placed-told : map setOf placed ≡ restatedSteps b
-    placed-told = ap (λ (xs : List ℕ). map setOf (foata (dependent (tables b)) (flat xs))) section-same ∙ sym (restated-normal b)
+    placed-told = ap (λ (ys : List ℕ). map setOf (foata (dependent (tables b)) (flat ys))) same ∙ sym (restated-normal b)
 
     count-sets : count ≡ length (map setOf placed)
     count-sets = h .counted ∙ sym (length-map placed setOf)

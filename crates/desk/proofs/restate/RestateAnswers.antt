@@ -18,7 +18,7 @@ use Rattle.answers.specs.Restated.{restated}
 use Rattle.answers.specs.Restating.{restating}
 use Rattle.answers.proofs.Restated.{accepted-limits, restated-reads}
 use Rattle.answers.proofs.LentOutput.{refused-first, refused-short, given-long, refused-kept, given-output}
-use Rattle.answers.proofs.Passing.{Stopped}
+use Rattle.answers.proofs.Passing.{IsRefusal}
 use Rattle.desk.specs.AcceptedSheet.{AcceptedSheet}
 use Rattle.desk.specs.Left.{PackedSteps}
 use Rattle.desk.specs.Calls.{RestateAnswer}
@@ -28,7 +28,7 @@ refused-right : (b out : List ℕ) (k i s : ℕ) → restating b (length out) �
 refused-right b out k i s e =
     record { answer-told = ap (values single) (sym e); output-left = sym (refused-kept b out k i s e) }
 
-pub restate-refused : (b out : List ℕ) (r : Answer) (v : Verdict) (s : Stopped r v) → verdict b ≡ Verdict.refused (s .number) (s .index) → RestateAnswer b out r out
+pub restate-refused : (b out : List ℕ) (r : Answer) (v : Verdict) (s : IsRefusal r v) → verdict b ≡ Verdict.refused (s .number) (s .index) → RestateAnswer b out r out
 restate-refused b out r v s same =
     rw (s .answer-told) (refused-right b out (s .number) (s .index) 0 (refused-first b (length out) (s .number) (s .index) same))
 

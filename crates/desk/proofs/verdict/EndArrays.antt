@@ -14,30 +14,30 @@ use Rattle.sheet.specs.Verdict.{Verdict, verdict}
 use Rattle.answers.specs.declared.Sizes.{Sizes}
 use Rattle.answers.specs.declared.Answer.{Answer}
 use Rattle.answers.specs.EndSets.{endSet}
-use Rattle.answers.proofs.Passing.{Stopped}
+use Rattle.answers.proofs.Passing.{IsRefusal}
 use Rattle.desk.specs.declared.verdict.EndSets.{EndSets}
 use Rattle.desk.specs.AcceptedSheet.{AcceptedSheet}
-use Rattle.desk.specs.Left.{keptOf, EndsLeft}
+use Rattle.desk.specs.Left.{setBelow, EndsLeft}
 use Rattle.desk.specs.Calls.{endArrayBy, EndSetsAnswer}
 
 module _ (b : List ℕ) (a : Answer) (held : List ℕ) (k : EndsLeft b a held) (r : EndSets) (same : a ≡ r .answer) where
-  pub ends-refused : Stopped a (verdict b) → r .sets ≡ replicate 16 0 → EndSetsAnswer b r
+  pub ends-refused : IsRefusal a (verdict b) → r .sets ≡ replicate 16 0 → EndSetsAnswer b r
   ends-refused s zeros =
       record {
         answer-told = rw (sym same) (k .answer-told);
         sets-told = zeros ∙ ap (λ (v : Verdict). endArrayBy v b) (sym (s .verdict-told));
       }
 
-  pub ends-kept : (z : Sizes) → AcceptedSheet b z → r .sets ≡ map (keptOf held (z .n)) (below 16) → EndSetsAnswer b r
-  ends-kept z s e =
+  pub ends-first : (z : Sizes) → AcceptedSheet b z → r .sets ≡ map (setBelow held (z .n)) (below 16) → EndSetsAnswer b r
+  ends-first z s e =
       record {
         answer-told = rw (sym same) (k .answer-told);
         sets-told =
-            e ∙ map-below (keptOf held (z .n)) (λ j. cond (ltb j (componentCount b)) (endSet b j) 0) 16 (λ j l. each j)
+            e ∙ map-below (setBelow held (z .n)) (λ j. cond (ltb j (componentCount b)) (endSet b j) 0) 16 (λ j l. each j)
             ∙ ap (λ (v : Verdict). endArrayBy v b) (sym (s .sheet-accepted));
       }
     where
-      each : (j : ℕ) → keptOf held (z .n) j ≡ cond (ltb j (componentCount b)) (endSet b j) 0
+      each : (j : ℕ) → setBelow held (z .n) j ≡ cond (ltb j (componentCount b)) (endSet b j) 0
       each j = rw (s .n-read) (go (ltb j (componentCount b)) refl)
         where
           go : (c : Bool) → ltb j (componentCount b) ≡ c → cond c (getD held j 0) 0 ≡ cond c (endSet b j) 0

@@ -1,11 +1,10 @@
 -- From what the readers and the run answer to the verdict on the sheet, its end sets and the components of each action.
 -- Assumes nothing.
 use mathlib.Core.Path.{_≡_, refl, sym, ap, subst, _∙_}
-use mathlib.Core.Logic.{inl, inr}
 use mathlib.Core.List.{List}
 use Prim.Native.Nat.{ℕ, _-_}
 use native.Mathlib.Omega.{arith}
-use lib.ListN.{length, take, drop}
+use lib.ListN.{length, take}
 use lib.Seq.{take-all}
 use Rattle.systems.specs.Running.{start}
 use Rattle.systems.specs.Checking.{firstFault}
@@ -20,18 +19,30 @@ use Rattle.dependence.specs.participants.Participants.{Participants}
 use Rattle.answers.specs.declared.Sizes.{Sizes}
 use Rattle.answers.specs.declared.Answer.{Answer}
 use Rattle.answers.specs.declared.Answer.the-variants.{Accepted as AcceptedAnswer, Given, Refused}
-use Rattle.answers.specs.Outcomes.{given, single, outcomeOf, after, readOutcome}
+use Rattle.answers.specs.Outcomes.{given, single, outcomeOf, after, sizesOf, readOutcome}
 use Rattle.answers.specs.EndSets.{endSet}
-use Rattle.answers.proofs.Passing.{NotAccepted, NotRefused, Stopped, stopped-by, told-accepted, told-refused, same-sizes}
-use Rattle.reading.specs.Reading.{TrailerPassed}
+use Rattle.answers.proofs.Passing.{NotAccepted, IsRefusal, stopped-by, told-accepted, same-sizes}
+use Rattle.reading.specs.Reading.{TrailerPassed, upToTrailer}
 use Rattle.sheet.specs.Sections.{stepsIn}
 use Rattle.machine.specs.Runs.{RunFromStart}
 use Rattle.machine.proofs.Running.{tables-told}
-use Rattle.desk.specs.Left.{EndsLeft, ParticipantsLeft}
+use Rattle.desk.specs.Left.{refusalOrSizes, EndsLeft, ParticipantsLeft}
+
+-- ---- the refusal of an answer, or the sizes
+
+-- of a sheet that has the sizes z: what was told of the verdict v with something else is told with the sizes
+pub or-sizes : (b : List ℕ) (z : Sizes) → outcomeOf (AcceptedAnswer z) ≡ readOutcome b accepted → (r : Answer) (v : Verdict) (x : List ℕ)
+    → outcomeOf r ≡ after v (given x) → outcomeOf (refusalOrSizes r z) ≡ readOutcome b v
+or-sizes b z e (AcceptedAnswer y) accepted x q = e
+or-sizes b z e (Given y) accepted x q = e
+or-sizes b z e (Refused k i s) accepted x q = let z : _≡_ {A = ℕ} 0 1 = cc in absurd (omega arith)
+or-sizes b z e (AcceptedAnswer y) (refused k i) x q = let z : _≡_ {A = ℕ} 0 1 = cc in absurd (omega arith)
+or-sizes b z e (Given y) (refused k i) x q = let z : _≡_ {A = ℕ} 0 1 = cc in absurd (omega arith)
+or-sizes b z e (Refused l j s) (refused k i) x q = q
 
 -- ---- a refused sheet leaves nothing that is promised
 
-module _ (b : List ℕ) (r : Answer) (v : Verdict) (s : Stopped r v) (same : verdict b ≡ refused (s .number) (s .index)) where
+module _ (b : List ℕ) (r : Answer) (v : Verdict) (s : IsRefusal r v) (same : verdict b ≡ refused (s .number) (s .index)) where
   pub refused-told : outcomeOf r ≡ readOutcome b (verdict b)
   refused-told = rw (s .answer-told, same) refl
 
@@ -44,15 +55,15 @@ module _ (b : List ℕ) (r : Answer) (v : Verdict) (s : Stopped r v) (same : ver
 
 module _ (b : List ℕ) (r : Answer) (h : NotAccepted r) where
   -- by the trailer
-  pub trailer-stopped : (e : outcomeOf r ≡ readOutcome b (trailerVerdict b accepted)) → Stopped r (trailerVerdict b accepted)
+  pub trailer-stopped : (e : outcomeOf r ≡ readOutcome b (trailerVerdict b accepted)) → IsRefusal r (trailerVerdict b accepted)
   trailer-stopped e = stopped-by r h (trailerVerdict b accepted) (componentCount b) (actionCount b) (transitionsAt b) (stepsAt b) e
 
-  pub trailer-verdict : (s : Stopped r (trailerVerdict b accepted)) → verdict b ≡ refused (s .number) (s .index)
+  pub trailer-verdict : (s : IsRefusal r (trailerVerdict b accepted)) → verdict b ≡ refused (s .number) (s .index)
   unfolding verdict
   trailer-verdict s = guard-stopped (trailer-guard b) (s .number) (s .index) (s .verdict-told) (tablesVerdict b (stepsVerdict b))
 
   -- by the tables
-  pub tables-stopped : (e : outcomeOf r ≡ readOutcome b (tablesVerdict b accepted)) → Stopped r (tablesVerdict b accepted)
+  pub tables-stopped : (e : outcomeOf r ≡ readOutcome b (tablesVerdict b accepted)) → IsRefusal r (tablesVerdict b accepted)
   tables-stopped e = stopped-by r h (tablesVerdict b accepted) (componentCount b) (actionCount b) (transitionsAt b) (stepsAt b) e
 
 -- ---- a trailer that passed
@@ -65,7 +76,7 @@ module _ (b : List ℕ) (z : Sizes) (t : TrailerPassed b z) where
   unfolding verdict
   verdict-then = guard-passed (trailer-guard b) (trailer-told .0) (tablesVerdict b (stepsVerdict b))
 
-  pub tables-verdict : {r : Answer} (s : Stopped r (tablesVerdict b accepted)) → verdict b ≡ refused (s .number) (s .index)
+  pub tables-verdict : {r : Answer} (s : IsRefusal r (tablesVerdict b accepted)) → verdict b ≡ refused (s .number) (s .index)
   tables-verdict s = verdict-then ∙ guard-stopped (tables-guard b) (s .number) (s .index) (s .verdict-told) (stepsVerdict b)
 
   module _ (w : Sizes) (e : outcomeOf (AcceptedAnswer w) ≡ readOutcome b (tablesVerdict b accepted)) where
@@ -114,37 +125,24 @@ module _ (b : List ℕ) (z : Sizes) (t : TrailerPassed b z) where
             ends = λ acc j l. h .ends (run-done r (run-told ∙ ap (λ (v : Verdict). after v (given (single 0))) acc)) j l;
           }
 
-      sheet-accepted : NotRefused r → EndsLeft b (AcceptedAnswer w) held
-      sheet-accepted n = sheet-ends (AcceptedAnswer w) (e ∙ ap (readOutcome b) (tables-told-accepted .0 ∙ sym (go r n (verdict b) run-told)))
-        where
-          go : (x : Answer) → NotRefused x → (v : Verdict) → outcomeOf x ≡ after v (given (single 0)) → v ≡ accepted
-          go x m accepted q = refl
-          go (AcceptedAnswer y) m (refused k i) q = let z : _≡_ {A = ℕ} 0 1 = cc in absurd (omega arith)
-          go (Given y) m (refused k i) q = let z : _≡_ {A = ℕ} 0 1 = cc in absurd (omega arith)
-          go (Refused l j s) m (refused k i) q = elim m [ inl p ↦ absurd (omega arith) | inr p ↦ absurd (omega arith) ]
-
-      sheet-refused : (k i s : ℕ) → r ≡ Refused k i s → EndsLeft b (Refused k i s) held
-      sheet-refused k i s q =
-          let told = told-refused k i s (verdict b) (single 0) (ap outcomeOf (sym q) ∙ run-told) in
-          sheet-ends (Refused k i s) (rw (told .0, told .1) refl)
+      sheet-answered : EndsLeft b (refusalOrSizes r w) held
+      sheet-answered =
+          sheet-ends (refusalOrSizes r w) (or-sizes b w (e ∙ ap (readOutcome b) (tables-told-accepted .0)) r (verdict b) (single 0) run-told)
 
     abbrev same-tables : tablesOf (take (w .s) b) (w .n) (w .m) ≡ tables b
     same-tables = tables-told b (w .n) (w .m) (w .s) (tables-told-accepted .1) (tables-told-accepted .2) (tables-told-accepted .4)
 
     -- the run over the parts is that of the sheet
-    module _ (r : Answer) (held : List ℕ)
-        (h : RunFromStart (tablesOf (take (w .s) b) (w .n) (w .m)) (stepsIn (take (length b - 10 - w .s) (drop (w .s) b))) r held) where
+    module _ (p : List ℕ) (part : p ≡ upToTrailer (w .s) b) (r : Answer) (held : List ℕ)
+        (h : RunFromStart (tablesOf (take (w .s) b) (w .n) (w .m)) (stepsIn p) r held) where
       run-sheet : RunFromStart (tables b) (steps b) r held
       run-sheet =
-          let xs : stepsIn (take (length b - 10 - w .s) (drop (w .s) b)) ≡ steps b =
-          section-steps b _ read-limits (ap (λ (k : ℕ). take (length b - 10 - k) (drop k b)) (tables-told-accepted .4)) in
+          let xs : stepsIn p ≡ steps b =
+          section-steps b p read-limits (part ∙ ap (λ (k : ℕ). upToTrailer k b) (tables-told-accepted .4)) in
           rw (sym same-tables, sym xs) h
 
-      pub run-accepted : NotRefused r → EndsLeft b (AcceptedAnswer w) held
-      run-accepted n = sheet-accepted r held run-sheet n
-
-      pub run-refused : (k i s : ℕ) → r ≡ Refused k i s → EndsLeft b (Refused k i s) held
-      run-refused k i s q = sheet-refused r held run-sheet k i s q
+      pub run-answered : EndsLeft b (refusalOrSizes r w) held
+      run-answered = sheet-answered r held run-sheet
 
     pub run-participants : (l : List ℕ) → Participants (tablesOf (take (w .s) b) (w .n) (w .m)) l → ParticipantsLeft b l
     run-participants l o acc = rw (sym same-tables) o
@@ -158,5 +156,12 @@ module _ (b : List ℕ) where
   pub trailer-part : (z : Sizes) → TrailerPassed b z → TrailerPassed (take (length b - 0) b) z
   trailer-part z e = subst (λ (x : List ℕ). TrailerPassed x z) (sym part-whole) e
 
-  pub ends-part : (r : Answer) (held : List ℕ) → EndsLeft (take (length b - 0) b) r held → EndsLeft b r held
-  ends-part r held h = subst (λ (x : List ℕ). EndsLeft x r held) part-whole h
+  pub ends-part : (z : Sizes) → TrailerPassed b z → (r : Answer) (held : List ℕ) → EndsLeft (take (length b - 0) b) r held
+      → EndsLeft b (refusalOrSizes r z) held
+  ends-part z t r held h =
+      let whole = subst (λ (x : List ℕ). EndsLeft x r held) part-whole h in
+      record {
+        size = whole .size;
+        answer-told = or-sizes b z (t ∙ ap (readOutcome b) (trailer-told b z t .0)) r (verdict b) (sizesOf b) (whole .answer-told);
+        ends = whole .ends;
+      }

@@ -8,12 +8,12 @@ use Prim.Native.Nat.{ℕ, zero, suc, _+_, _-_, _≤_, _<_, max}
 use native.Mathlib.Omega.{arith}
 use lib.Dec.{eqb}
 use lib.ListN.{length, getD, set, replicate, length-append}
-use Rattle.sets.specs.Lists.{some}
+use Rattle.sets.specs.Lists.{anyOf}
 use Rattle.sets.specs.Bits.{member, members, with, setOf}
 use Rattle.sets.proofs.Bools.{true-or-false}
 use Rattle.sets.proofs.Members.{member-zero, member-with, member-ext, member-lt, members-mem}
-use Rattle.traces.specs.Foata.{insert, putAt, reach, placeAll}
-use Rattle.traces.proofs.Insert.{some-insert}
+use Rattle.traces.specs.Foata.{insertSorted, putAt, reach, placeAll}
+use Rattle.traces.proofs.Insert.{anyOf-insertSorted}
 use Rattle.traces.proofs.Reach.{reach-le, reach-miss, reach-hit}
 use Rattle.traces.proofs.Placing.{put-length, placeAll-append}
 use Rattle.systems.specs.Tables.{Tables, InOrder, WordOver}
@@ -27,15 +27,15 @@ use Rattle.normal_form.specs.placing.Placing.{Shows, PlacesWord}
 
 -- ---- the sets of the steps
 
-member-setOf : (i : ℕ) (s : List ℕ) → member (setOf s) i ≡ some (λ j. eqb j i) s
+member-setOf : (i : ℕ) (s : List ℕ) → member (setOf s) i ≡ anyOf (λ j. eqb j i) s
 member-setOf i [] = member-zero i
 member-setOf i (j ∷ s) = member-with j (setOf s) i ∙ ap (λ (b : Bool). eqb j i || b) (member-setOf i s)
 
-setOf-insert : (a : ℕ) (s : List ℕ) → setOf (insert a s) ≡ with a (setOf s)
-setOf-insert a s =
-    member-ext (setOf (insert a s)) (with a (setOf s)) (λ i.
-    member-setOf i (insert a s)
-    ∙ some-insert (λ j. eqb j i) a s
+setOf-insertSorted : (a : ℕ) (s : List ℕ) → setOf (insertSorted a s) ≡ with a (setOf s)
+setOf-insertSorted a s =
+    member-ext (setOf (insertSorted a s)) (with a (setOf s)) (λ i.
+    member-setOf i (insertSorted a s)
+    ∙ anyOf-insertSorted (λ j. eqb j i) a s
     ∙ ap (λ (b : Bool). eqb a i || b) (sym (member-setOf i s))
     ∙ sym (member-with a (setOf s) i))
 
@@ -49,7 +49,7 @@ put-sets a zero [] zero y h e = absurd (omega arith)
 put-sets a zero [] (suc z) y h e = let same : z ≡ y = omega arith in ap (λ (x : ℕ). with a 0 ∷ replicate x 0) same
 put-sets a zero (s ∷ ss) z y h e =
     let same : z ≡ y = omega arith in
-    ap₂ (λ (x r : ℕ). x ∷ padded ss r) (sym (setOf-insert a s)) same
+    ap₂ (λ (x r : ℕ). x ∷ padded ss r) (sym (setOf-insertSorted a s)) same
 put-sets a (suc k) [] z y h e = absurd (omega arith)
 put-sets a (suc k) (s ∷ ss) z y h e = ap (λ (t : List ℕ). setOf s ∷ t) (put-sets a k ss z y (omega arith) (omega arith))
 

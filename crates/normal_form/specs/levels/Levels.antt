@@ -12,6 +12,6 @@ pub record LevelsRaised (mine level : ℕ) (before after : List ℕ) : Type 0 wh
   pub has : (j : ℕ) → j < 16 → member mine j ≡ true → getD after j 0 ≡ suc level
   pub others : (j : ℕ) → j < 16 → member mine j ≡ false → getD after j 0 ≡ getD before j 0
 
--- 1,024 steps have room for k more actions, wherever they are placed (document 01, the limits)
+-- L5, L6: 1,024 steps have room for k more actions, wherever they are placed
 abbrev pub Room : List ℕ → ℕ → Type 0
 Room last k = (j : ℕ) → j < 16 → getD last j 0 + k ≤ 1024

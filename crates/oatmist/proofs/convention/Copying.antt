@@ -10,15 +10,15 @@ use native.Mathlib.Numerals.{add-one}
 use lib.ListN.{length, take, drop, getD, set, length-set}
 use lib.Seq.{length-take-le, take-all, take-suc, drop-cons, append-snoc, set-at, take-nil}
 use Rattle.sets.specs.Lists.{over}
-use Rattle.oatmist.specs.Convention.{filled}
+use Rattle.oatmist.specs.Convention.{withValues}
 
 -- the first k of the values stand in front of an array that was `old`
-pub record Copied (values old : List ℕ) (count k : ℕ) (out : List ℕ) : Type 0 where
+pub record CopiedUpTo (values old : List ℕ) (count k : ℕ) (out : List ℕ) : Type 0 where
   pub most : k ≤ count
   pub content : out ≡ take k values ++ drop k old
   pub size : length out ≡ length old
 
-pub copied-none : (values old : List ℕ) (count : ℕ) → Copied values old count 0 old
+pub copied-none : (values old : List ℕ) (count : ℕ) → CopiedUpTo values old count 0 old
 copied-none values old count = record { most = omega arith; content = refl; size = refl }
 
 -- one more of them
@@ -32,8 +32,8 @@ store values old k v o =
     ∙ ap (λ (l : List ℕ). l ++ rest) (sym (take-suc values k 0 v))
 
 module _ (values old : List ℕ) (count : ℕ) (e : count ≡ min (length values) (length old)) where
-  pub copied-more : (k : ℕ) (out : List ℕ) → Copied values old count k out → k < count
-      → Copied values old count (k + 1) (set out k (getD values k 0))
+  pub copied-more : (k : ℕ) (out : List ℕ) → CopiedUpTo values old count k out → k < count
+      → CopiedUpTo values old count (k + 1) (set out k (getD values k 0))
   copied-more k out c h = record {
     most = omega arith;
     content =
@@ -43,13 +43,13 @@ module _ (values old : List ℕ) (count : ℕ) (e : count ≡ min (length values
     size = length-set out k (getD values k 0) ∙ c .size;
   }
 
-  pub copied-all : (k : ℕ) (out : List ℕ) → Copied values old count k out → count ≤ k → out ≡ filled values old
+  pub copied-all : (k : ℕ) (out : List ℕ) → CopiedUpTo values old count k out → count ≤ k → out ≡ withValues values old
   copied-all k out c h = c .content ∙ ended (eq-or-lt-of-le low)
     where
       low : k ≤ length values
       low = let m = c .most in omega arith
 
-      ended : (k ≡ length values) ⊎ (k < length values) → take k values ++ drop k old ≡ filled values old
+      ended : (k ≡ length values) ⊎ (k < length values) → take k values ++ drop k old ≡ withValues values old
       ended (inl same) =
           let all : take (length old) values ≡ values = take-all (length old) values (omega arith) in
           ap₂ (λ (x y : List ℕ). x ++ y) (take-all k values (omega arith) ∙ sym all) (ap (λ (j : ℕ). drop j old) (same ∙ sym (ap length all)))
@@ -60,7 +60,7 @@ module _ (values old : List ℕ) (count : ℕ) (e : count ≡ min (length values
           (ap (λ (j : ℕ). drop j old) (same ∙ sym (length-take-le (length old) values (omega arith))))
 
 -- four values put one by one, each where there is room for it
-pub set-four : (a b c d : ℕ) (l : List ℕ) → set (set (set (set l 0 a) 1 b) 2 c) 3 d ≡ filled (a ∷ b ∷ c ∷ d ∷ []) l
+pub set-four : (a b c d : ℕ) (l : List ℕ) → set (set (set (set l 0 a) 1 b) 2 c) 3 d ≡ withValues (a ∷ b ∷ c ∷ d ∷ []) l
 set-four a b c d [] = refl
 set-four a b c d (_ ∷ []) = refl
 set-four a b c d (_ ∷ _ ∷ []) = refl

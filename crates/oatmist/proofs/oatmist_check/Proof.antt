@@ -8,8 +8,7 @@ use Rattle.oatmist.proofs.oatmist_check.Tie as tie
 hand-requires : tie.Need-hand-requires
 hand-requires c κs =
     let told = c .before .check in
-    let a = c .before .before .before .before .args in
-    packable-told (told .result) _ (told .ensures) (packable-read (a .sheet .now) _)
+    packable-told (told .result) _ (told .ensures) (packable-read _ _)
 
 returns : tie.Need-returns
 returns c =

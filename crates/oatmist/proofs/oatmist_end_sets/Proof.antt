@@ -9,14 +9,14 @@ use Rattle.sheet.specs.Verdict.{Verdict, verdict}
 use Rattle.answers.specs.declared.Answer.{Answer}
 use Rattle.answers.specs.Outcomes.{Outcome, given, outcomeOf, after}
 use Rattle.answers.specs.EndSets.{endArray, endsOutcome}
-use Rattle.answers.proofs.Passing.{NotAccepted, Stopped, stopped-by, told-accepted}
+use Rattle.answers.proofs.Passing.{NotAccepted, IsRefusal, stopped-by, told-accepted}
 use Rattle.desk.specs.Calls.{CheckAnswer, endArrayBy}
-use Rattle.oatmist.specs.Convention.{CAnswer, filled}
+use Rattle.oatmist.specs.Convention.{CAnswer, withValues}
 use Rattle.oatmist.proofs.Packing.{packable-read, packable-told, handed-told}
 use Rattle.oatmist.proofs.oatmist_end_sets.Statement.{statement}
 use Rattle.oatmist.proofs.oatmist_end_sets.Tie as tie
 
-stopped-ends : (b : List ℕ) (a : Answer) → Stopped a (verdict b) → outcomeOf a ≡ endsOutcome b
+stopped-ends : (b : List ℕ) (a : Answer) → IsRefusal a (verdict b) → outcomeOf a ≡ endsOutcome b
 unfolding endsOutcome
 stopped-ends b a s = ap outcomeOf (s .answer-told) ∙ ap (λ (v : Verdict). after v (given (endArray b))) (sym (s .verdict-told))
 
@@ -52,7 +52,7 @@ returns-2 c =
     (ap outcomeOf (sym (k .before .answer .given .1)) ∙ ended .end-sets .ensures .answer-told) .0
     in
     subst (λ (o : Outcome (List ℕ)). CAnswer o 0 (ended .before .before .before .args .ends .now) (made .fill .last .1 .0)) (accepted-told b acc)
-    (refl, made .fill .ensures ∙ ap (λ (xs : List ℕ). filled xs (ended .before .before .before .args .ends .now)) (ended .end-sets .ensures .sets-told))
+    (refl, made .fill .ensures ∙ ap (λ (xs : List ℕ). withValues xs (ended .before .before .before .args .ends .now)) (ended .end-sets .ensures .sets-told))
 
 pub oatmist-end-sets-spec : {M : Type 1} → statement M
 oatmist-end-sets-spec =

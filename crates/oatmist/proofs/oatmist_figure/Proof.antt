@@ -8,8 +8,7 @@ use Rattle.oatmist.proofs.oatmist_figure.Tie as tie
 hand-requires : tie.Need-hand-requires
 hand-requires c κs =
     let told = c .before .figure-of in
-    let a = c .before .before .before .before .args in
-    packable-told (told .result) _ (told .ensures) (packable-figure (a .sheet .now))
+    packable-told (told .result) _ (told .ensures) (packable-figure _)
 
 returns : tie.Need-returns
 returns c =

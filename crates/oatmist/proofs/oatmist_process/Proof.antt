@@ -8,8 +8,7 @@ use Rattle.oatmist.proofs.oatmist_process.Tie as tie
 hand-requires : tie.Need-hand-requires
 hand-requires c κs =
     let told = c .before .process-check in
-    let a = c .before .before .before .before .args in
-    packable-told (told .result) _ (told .ensures) (packable-process (a .sheet .now))
+    packable-told (told .result) _ (told .ensures) (packable-process _)
 
 returns : tie.Need-returns
 returns c =

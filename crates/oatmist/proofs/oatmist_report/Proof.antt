@@ -8,14 +8,16 @@ use Rattle.oatmist.proofs.oatmist_report.Tie as tie
 hand-requires : tie.Need-hand-requires
 hand-requires c κs =
     let made = c .before .before .before in
-    let a = made .before .before .before .before .before .args in
-    packable-told (made .report .result) _ (made .report .ensures .answer-told) (packable-report (a .sheet .now) _)
+    packable-told (made .report .result) _ (made .report .ensures .answer-told) (packable-report _ _)
 
 returns : tie.Need-returns
 returns c =
     let handed = c .before .before in
     let made = handed .before .before .before .before .report in
-    (made .ensures .output-left, handed-told (made .result) _ (made .ensures .answer-told) _ _ _ (handed .hand .ensures))
+    record {
+      answer-told = handed-told (made .result) _ (made .ensures .answer-told) _ _ _ (handed .hand .ensures);
+      output-left = made .ensures .output-left;
+    }
 
 pub oatmist-report-spec : {M : Type 1} → statement M
 oatmist-report-spec = tie.close (tie.spec (λ c κs. search needs) hand-requires (λ c. search needs) (λ c. search needs) returns)

@@ -8,8 +8,7 @@ use Rattle.oatmist.proofs.oatmist_same_work.Tie as tie
 hand-requires : tie.Need-hand-requires
 hand-requires c κs =
     let told = c .before .same-work in
-    let a = c .before .before .before .before .before .args in
-    packable-told (told .result) _ (told .ensures) (packable-work (a .first .now) (a .second .now))
+    packable-told (told .result) _ (told .ensures) (packable-work _ _)
 
 returns : tie.Need-returns
 returns c =

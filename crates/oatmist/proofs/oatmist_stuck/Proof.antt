@@ -8,8 +8,7 @@ use Rattle.oatmist.proofs.oatmist_stuck.Tie as tie
 hand-requires : tie.Need-hand-requires
 hand-requires c κs =
     let told = c .before .is-stuck in
-    let a = c .before .before .before .before .args in
-    packable-told (told .result) _ (told .ensures) (packable-stuck (a .sheet .now))
+    packable-told (told .result) _ (told .ensures) (packable-stuck _)
 
 returns : tie.Need-returns
 returns c =

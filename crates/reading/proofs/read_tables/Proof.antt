@@ -8,7 +8,10 @@ use Prim.Native.Nat.{ℕ}
 use native.Mathlib.Omega.{arith}
 use borrow.Author.Needs.{needs}
 use lib.Dec.{ltb}
+use lib.ListN.{length}
 use Rattle.sets.proofs.Bools.{ltb-true, ltb-false}
+use Rattle.systems.specs.Checking.{flat}
+use Rattle.sheet.specs.Sections.{stepsIn}
 use Rattle.sheet.specs.Refusals.{recordsWrong, actionUnused, transitionsWrong, orderWrong, tooManyActions}
 use Rattle.sheet.specs.Verdict.{accepted}
 use Rattle.answers.specs.declared.Sizes.{Sizes}
@@ -137,7 +140,8 @@ abbrev rising-at : tie.After-actions-in → tie.Else4
 rising-at c = c .before .before
 
 too-many : (c : tie.After-actions-in) → tooManyActions (sheet-at (ordered-at (rising-at c .before))) ≡ ltb 1024 (c .actions-in .result)
-too-many c = count-told (read-at (ordered-at (rising-at c .before))) (c .actions-in .ensures)
+too-many c = count-told (read-at (ordered-at (rising-at c .before)))
+    (c .actions-in .ensures ∙ ap (λ (l : List ℕ). length (flat (stepsIn l))) (c .before .step-section .ensures))
 
 returns-5 : tie.Need-returns-5
 returns-5 c =
@@ -164,7 +168,6 @@ pub read-tables-spec : {M : Type 1} → statement M
 read-tables-spec =
     tie.close
     (tie.spec
-    (λ c. let r = read-at (c .before .before) in omega arith)
     (λ c. search needs)
     (λ c. search needs)
     (λ c. let r = read-at (c .before .before) in omega arith)
@@ -188,10 +191,8 @@ read-tables-spec =
     (λ c κs. search needs)
     (λ c. search needs)
     returns-4
-    (λ c. let r = read-at (ordered-at (c .before)) in omega arith)
-    (λ c. let r = read-at (ordered-at (c .before)) in omega arith)
-    (λ c. search needs)
-    (λ c κs. steps-short (read-at (ordered-at (c .before .before))))
+    (λ c κs. let r = read-at (ordered-at (c .before)) in omega arith)
+    (λ c κs. rw (c .step-section .ensures) (steps-short (read-at (ordered-at (c .before .before)))))
     (λ c κs. search needs)
     (λ c. search needs)
     returns-5

@@ -22,7 +22,7 @@ length-passed : (c : tie.Else1) → lengthWrong (sheet-at (c .before)) ≡ false
 length-passed c = sym (c .before .length-wrong .ensures) ∙ c .if1 .left
 
 mark-passed : (c : tie.Else2) → markWrong (sheet-at (c .before .before .before)) ≡ false
-mark-passed c = sym (c .before .unmarked .ensures) ∙ c .if2 .left
+mark-passed c = sym (c .before .mark-wrong .ensures) ∙ c .if2 .left
 
 counts-passed : (c : tie.Else3) → countsWrong (sheet-at (c .before .before .before .before .before)) ≡ false
 counts-passed c = sym (c .before .counts-wrong .ensures) ∙ c .if3 .left
@@ -39,7 +39,7 @@ returns c = rw (sym (c .before .before .length-wrong .ensures) ∙ c .before .if
 returns-2 : tie.Need-returns-2
 returns-2 c =
     let k = c .before .before in
-    rw (length-passed (k .before), sym (k .unmarked .ensures) ∙ c .before .if2 .taken) (ap outcomeOf (c .refuse2 .ensures))
+    rw (length-passed (k .before), sym (k .mark-wrong .ensures) ∙ c .before .if2 .taken) (ap outcomeOf (c .refuse2 .ensures))
 
 returns-3 : tie.Need-returns-3
 returns-3 c =

@@ -10,10 +10,10 @@ use borrow.Author.Tests.{eq-eqb}
 use lib.Bits.{bitAnd}
 use lib.Dec.{eqb}
 use lib.Pow.{pow-pos, ones-lt}
-use Rattle.sets.specs.Lists.{some, below}
+use Rattle.sets.specs.Lists.{anyOf, below}
 use Rattle.sets.specs.Bits.{member}
 use Rattle.sets.proofs.Bools.{true-or-false, clash, not-true, not-false, and-true, eqb-false}
-use Rattle.sets.proofs.Lists.{some-elim, some-false, mem-below}
+use Rattle.sets.proofs.Lists.{anyOf-elim, anyOf-false, mem-below}
 use Rattle.sets.proofs.Members.{member-low, member-half, member-and, member-ext, member-lt}
 
 full-has : (m a : ℕ) → a < m → member (2 ^ m - 1) a ≡ true
@@ -34,22 +34,22 @@ absorb false false h = refl
 
 -- the set x, given by its elements, has not every number below m
 module _ (x m : ℕ) (has : ℕ → Bool) (given : (a : ℕ) → member x a ≡ has a) where
-  whole : some (λ a. not (has a)) (below m) ≡ false → bitAnd x (2 ^ m - 1) ≡ 2 ^ m - 1
+  whole : anyOf (λ a. not (has a)) (below m) ≡ false → bitAnd x (2 ^ m - 1) ≡ 2 ^ m - 1
   whole none = member-ext _ _ (λ i. member-and x (2 ^ m - 1) i ∙ absorb (member x i) (member (2 ^ m - 1) i) (inside i))
     where
       inside : (i : ℕ) → member (2 ^ m - 1) i ≡ true → member x i ≡ true
-      inside i h = given i ∙ not-false (has i) .0 (some-false (λ a. not (has a)) (below m) none (mem-below m i .1 (member-lt m (2 ^ m - 1) i (ones-lt m) h)))
+      inside i h = given i ∙ not-false (has i) .0 (anyOf-false (λ a. not (has a)) (below m) none (mem-below m i .1 (member-lt m (2 ^ m - 1) i (ones-lt m) h)))
 
   lacking : (a : ℕ) → a < m → has a ≡ false → bitAnd x (2 ^ m - 1) ≡ 2 ^ m - 1 → ⊥
   lacking a l h e =
       clash (and-true (member x a) _ .0 (sym (member-and x (2 ^ m - 1) a) ∙ ap (λ (z : ℕ). member z a) e ∙ full-has m a l) .0) (given a ∙ h)
 
-  pub lacks : not (eqb (bitAnd x (2 ^ m - 1)) (2 ^ m - 1)) ≡ some (λ a. not (has a)) (below m)
-  lacks = go (true-or-false (some (λ a. not (has a)) (below m)))
+  pub lacks : not (eqb (bitAnd x (2 ^ m - 1)) (2 ^ m - 1)) ≡ anyOf (λ a. not (has a)) (below m)
+  lacks = go (true-or-false (anyOf (λ a. not (has a)) (below m)))
     where
-      go : (some (λ a. not (has a)) (below m) ≡ true) ⊎ (some (λ a. not (has a)) (below m) ≡ false)
-          → not (eqb (bitAnd x (2 ^ m - 1)) (2 ^ m - 1)) ≡ some (λ a. not (has a)) (below m)
+      go : (anyOf (λ a. not (has a)) (below m) ≡ true) ⊎ (anyOf (λ a. not (has a)) (below m) ≡ false)
+          → not (eqb (bitAnd x (2 ^ m - 1)) (2 ^ m - 1)) ≡ anyOf (λ a. not (has a)) (below m)
       go (inl e) =
-          let r = some-elim (λ a. not (has a)) (below m) e in
+          let r = anyOf-elim (λ a. not (has a)) (below m) e in
           ap not (eqb-false _ _ .1 (lacking (r .0) (mem-below m (r .0) .0 (r .1)) (not-true (has (r .0)) .0 (r .2)))) ∙ sym e
       go (inr e) = ap not (eq-eqb _ _ (whole e)) ∙ sym e

@@ -5,13 +5,13 @@ use mathlib.Core.Bool.{Bool, not}
 use mathlib.Core.List.{List}
 use Prim.Native.Nat.{ℕ}
 use lib.ListN.{getD}
-use Rattle.sets.specs.Lists.{some, below}
+use Rattle.sets.specs.Lists.{anyOf, below}
 use Rattle.sets.specs.Bits.{member}
 
 -- the set has just what the first n sets of the list have
 pub record UnionOfAlphabets (l : List ℕ) (n all : ℕ) : Type 0 where
-  pub exact : (a : ℕ) → member all a ≡ some (λ j. member (getD l j 0) a) (below n)
+  pub exact : (a : ℕ) → member all a ≡ anyOf (λ j. member (getD l j 0) a) (below n)
 
--- document 01, refusal 6, of the first n alphabets of a list
+-- R6, of the first n alphabets of a list
 abbrev pub unusedIn : List ℕ → ℕ → ℕ → Bool
-unusedIn l n m = some (λ a. not (some (λ j. member (getD l j 0) a) (below n))) (below m)
+unusedIn l n m = anyOf (λ a. not (anyOf (λ j. member (getD l j 0) a) (below n))) (below m)

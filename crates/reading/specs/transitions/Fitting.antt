@@ -1,4 +1,4 @@
--- What refusal 7 asks of a transition's component, and a byte string as the number by which it is compared.
+-- What R7 asks of a transition's component, and a byte string as the number by which it is compared (R8).
 -- Assumes nothing.
 use mathlib.Core.Path.{_≡_}
 use mathlib.Core.List.{List, [], _∷_}

@@ -4,15 +4,14 @@ use mathlib.Core.Path.{refl}
 use mathlib.Core.Bool.{Bool, true, false}
 use mathlib.Core.List.{List, [], _∷_, _++_, map, List·Memᴰ, List·Memᴰ·head, List·Memᴰ·tail}
 use Prim.Native.Nat.{ℕ, zero, suc, _+_, _*_, _/_, _%_, _^_, _≤_, _<_}
-use native.Mathlib.Nat.{pow-suc}
+use native.Mathlib.Nat.{pow-suc, mul-suc}
 use native.Mathlib.Omega.{arith}
 use lib.ListN.{length, length-append}
-use Rattle.sets.specs.Lists.{concat, below, upward, keep}
+use Rattle.sets.specs.Lists.{appendAll, below, upward, keep}
 use Rattle.sets.specs.Bits.{member, membersFrom, members}
 use Rattle.sets.proofs.Members.{members-mem}
 use Rattle.systems.specs.Checking.{flat}
-use Rattle.answers.specs.Report.{digitsBefore, part, line, stepWord, endWord}
-use Rattle.report.specs.text.Texts.{stepTexts}
+use Rattle.answers.specs.Report.{digitsBefore, part, line, stepWord, endWord, stepTexts, endTexts}
 
 -- ---- numbers
 
@@ -35,53 +34,40 @@ digits-few : (k : ℕ) → Few k
 digits-few zero j x t h = omega arith
 digits-few (suc k) j x t h = few-more k (digits-few k) j x t h
 
--- never more than k
-abbrev Most : ℕ → Type 0
-Most k = (x : ℕ) (t : List ℕ) → length (digitsBefore k x t) ≤ k + length t
+-- with a space before it, in at most k digits
+part-few : (k x : ℕ) → 0 < k → x < 10 ^ k → length (part x) ≤ suc k
+part-few k zero some h = omega arith
+part-few k (suc x) some h = let r = digits-few (suc x) k (suc x) [] h in omega arith
 
-most-more : (k : ℕ) → Most k → Most (suc k)
-most-more k before zero t = omega arith
-most-more k before (suc x) t = let r = before (suc x / 10) ((48 + suc x % 10) ∷ t) in omega arith
-
-digits-most : (k : ℕ) → Most k
-digits-most zero x t = omega arith
-digits-most (suc k) x t = most-more k (digits-most k) x t
-
-part-two : (x : ℕ) → x < 100 → length (part x) ≤ 3
-part-two zero h = omega arith
-part-two (suc x) h = let r = digits-few 20 2 (suc x) [] (omega arith) in omega arith
-
-part-most : (x : ℕ) → length (part x) ≤ 21
-part-most zero = omega arith
-part-most (suc x) = let r = digits-most 20 (suc x) [] in omega arith
-
-parts-two : (xs : List ℕ) → ((x : ℕ) → List·Memᴰ x xs → x < 100) → length (concat (map part xs)) ≤ 3 * length xs
-parts-two [] h = omega arith
-parts-two (x ∷ xs) h =
-    let a = length-append (part x) (concat (map part xs)) in
-    let p = part-two x (h x (List·Memᴰ·head refl)) in
-    let r = parts-two xs (λ y m. h y (List·Memᴰ·tail m)) in
+parts-few : (k : ℕ) → 0 < k → (xs : List ℕ) → ((x : ℕ) → List·Memᴰ x xs → x < 10 ^ k) → length (appendAll (map part xs)) ≤ suc k * length xs
+parts-few k some [] h = omega arith
+parts-few k some (x ∷ xs) h =
+    let a = length-append (part x) (appendAll (map part xs)) in
+    let p = part-few k x some (h x (List·Memᴰ·head refl)) in
+    let r = parts-few k some xs (λ y m. h y (List·Memᴰ·tail m)) in
+    let e = mul-suc (suc k) (length xs) in
     omega arith
 
-parts-most : (xs : List ℕ) → length (concat (map part xs)) ≤ 21 * length xs
-parts-most [] = omega arith
-parts-most (x ∷ xs) =
-    let a = length-append (part x) (concat (map part xs)) in
-    let p = part-most x in
-    let r = parts-most xs in
-    omega arith
+-- each has at most 20 digits
+abbrev pub In20 : List ℕ → Type 0
+In20 [] = Unit {0}
+In20 (x ∷ xs) = (x < 10 ^ 20) × In20 xs
 
-pub line-most : (word xs : List ℕ) → length (line word xs) ≤ length word + 21 * length xs + 1
-line-most word xs =
-    let a = length-append word (concat (map part xs) ++ (10 ∷ [])) in
-    let b = length-append (concat (map part xs)) (10 ∷ []) in
-    let r = parts-most xs in
+in20-each : (xs : List ℕ) → In20 xs → (x : ℕ) → List·Memᴰ x xs → x < 10 ^ 20
+in20-each (y ∷ ys) h x (List·Memᴰ·head e) = rw e (h .0)
+in20-each (y ∷ ys) h x (List·Memᴰ·tail t) = in20-each ys (h .1) x t
+
+pub line-most : (word xs : List ℕ) → In20 xs → length (line word xs) ≤ length word + 21 * length xs + 1
+line-most word xs h =
+    let a = length-append word (appendAll (map part xs) ++ (10 ∷ [])) in
+    let b = length-append (appendAll (map part xs)) (10 ∷ []) in
+    let r = parts-few 20 (omega arith) xs (in20-each xs h) in
     omega arith
 
 -- ---- sets
 
-members-text : (x : ℕ) → length (concat (map part (members x))) ≤ 3 * length (members x)
-members-text x = parts-two (members x) (λ i m. let l = members-mem x i .0 m .0 in omega arith)
+members-text : (x : ℕ) → length (appendAll (map part (members x))) ≤ 3 * length (members x)
+members-text x = parts-few 2 (omega arith) (members x) (λ i m. let l = members-mem x i .0 m .0 in omega arith)
 
 keep-few : (c : Bool) (i k : ℕ) (l : List ℕ) → length l ≤ k → length (keep c i l) ≤ suc k
 keep-few true i k l h = omega arith
@@ -98,16 +84,16 @@ members-few x = from-few 0 64 x
 
 step-line : (x : ℕ) → length (line stepWord (members x)) ≤ 5 + 3 * length (members x)
 step-line x =
-    let b = length-append (concat (map part (members x))) (10 ∷ []) in
+    let b = length-append (appendAll (map part (members x))) (10 ∷ []) in
     let r = members-text x in
     omega arith
 
 end-line : (j x : ℕ) → j < 100 → length (line endWord (j ∷ members x)) ≤ 199
 end-line j x h =
-    let parts = concat (map part (members x)) in
+    let parts = appendAll (map part (members x)) in
     let a = length-append (part j ++ parts) (10 ∷ []) in
     let b = length-append (part j) parts in
-    let p = part-two j h in
+    let p = part-few 2 j (omega arith) h in
     let r = members-text x in
     let f = members-few x in
     omega arith
@@ -123,19 +109,15 @@ steps-most (x ∷ xs) =
     let r = steps-most xs in
     omega arith
 
--- of any sets, one for each component
-abbrev endsOf : (ℕ → ℕ) → List ℕ → List ℕ
-endsOf held js = concat (map (λ j. line endWord (j ∷ members (held j))) js)
-
-upward-most : (held : ℕ → ℕ) (j k : ℕ) → j + k ≤ 100 → length (endsOf held (upward j k)) ≤ 199 * k
+upward-most : (held : ℕ → ℕ) (j k : ℕ) → j + k ≤ 100 → length (endTexts held (upward j k)) ≤ 199 * k
 unfolding upward
 upward-most held j zero h = omega arith
 upward-most held j (suc k) h =
-    let a = length-append (line endWord (j ∷ members (held j))) (endsOf held (upward (suc j) k)) in
+    let a = length-append (line endWord (j ∷ members (held j))) (endTexts held (upward (suc j) k)) in
     let p = end-line j (held j) (omega arith) in
     let r = upward-most held (suc j) k (omega arith) in
     omega arith
 
-pub ends-most : (held : ℕ → ℕ) (n : ℕ) → n ≤ 16 → length (concat (map (λ j. line endWord (j ∷ members (held j))) (below n))) ≤ 3184
+pub ends-most : (held : ℕ → ℕ) (n : ℕ) → n ≤ 16 → length (endTexts held (below n)) ≤ 3184
 unfolding below
 ends-most held n h = let r = upward-most held 0 n (omega arith) in omega arith

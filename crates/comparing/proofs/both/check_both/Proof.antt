@@ -4,7 +4,8 @@ use mathlib.Core.Path.{sym, _∙_}
 use mathlib.Core.List.{List}
 use Prim.Native.Nat.{ℕ}
 use Rattle.desk.specs.AcceptedSheet.{AcceptedSheet}
-use Rattle.comparing.proofs.both.Refusals.{first-told, second-told, first-stops, second-stops, tables-stop, pair-passes}
+use Rattle.desk.proofs.Accepted.{check-accepted}
+use Rattle.comparing.proofs.both.Refusals.{second-told, first-stops, second-stops, tables-stop, two-pass}
 use borrow.Author.Needs.{needs}
 use Rattle.comparing.proofs.both.check_both.Statement.{statement}
 use Rattle.comparing.proofs.both.check_both.Tie as tie
@@ -19,7 +20,7 @@ one-at : (k : tie.After-known-told) → AcceptedSheet (first-at k) (k .before .o
 one-at k =
     let told = k .before .before .before .check in
     let g = k .before .one .given in
-    first-told (first-at k) (told .result) (g .0 .0) (g .1) (told .ensures)
+    check-accepted (first-at k) (told .result) (g .0 .0) (g .1) (told .ensures)
 
 two-at : (k : tie.After-known-told2) → AcceptedSheet (second-at (k .before .before .before .before)) (k .before .two .given .0 .0)
 two-at k =
@@ -51,7 +52,7 @@ returns-3 c =
 returns-4 : tie.Need-returns-4
 returns-4 c =
     let k = c .before .before .before .before .before .before in
-    pair-passes (first-at k) (second-at k) (k .before .one .given .0 .0) (one-at k) (two-at (c .before .before) .sheet-accepted)
+    two-pass (first-at k) (second-at k) (k .before .one .given .0 .0) (one-at k) (two-at (c .before .before) .sheet-accepted)
     (sym (c .before .differ .ensures) ∙ c .if1 .left)
 
 pub check-both-spec : {M : Type 1} → statement M

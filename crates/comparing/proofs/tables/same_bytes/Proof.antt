@@ -2,9 +2,9 @@
 -- Assumes nothing.
 use Prim.Native.Nat.{_-_}
 use native.Mathlib.Omega.{arith}
-use borrow.Author.Count.{below-more}
+use borrow.Author.Needs.{needs}
 use lib.ListN.{length}
-use Rattle.comparing.proofs.Sameness.{SameTo, apart-length, apart-at, same-all}
+use Rattle.comparing.proofs.Sameness.{SameTo, apart-length, apart-at, same-none, same-more, same-all}
 use Rattle.comparing.proofs.tables.same_bytes.Statement.{statement}
 use Rattle.comparing.proofs.tables.same_bytes.Tie as tie
 
@@ -14,51 +14,23 @@ Inv-loop a b i₀ i = SameTo a b i
 abbrev μ-loop : tie.MeasureT-loop
 μ-loop a b i₀ i = length a - i
 
-returns : tie.Need-returns Inv-loop μ-loop
-returns c = apart-length (c .before .args .a .now) (c .before .args .b .now) (c .if1 .taken)
-
-loop-holds : tie.Need-loop-holds Inv-loop μ-loop
-loop-holds c = record { within = omega arith; as-long = c .if1 .left; passed = λ k h. absurd (omega arith) }
-
-shared-slice-read-if2 : tie.Need-shared-slice-read-if2 Inv-loop μ-loop
-shared-slice-read-if2 c = omega arith
-
-shared-slice-read-if2-2 : tie.Need-shared-slice-read-if2-2 Inv-loop μ-loop
-shared-slice-read-if2-2 c = let p = c .before .before .before .loop .inv in omega arith
-
-returns-2 : tie.Need-returns-2 Inv-loop μ-loop
-returns-2 c =
-    let a = c .before .before .before .before .before .before .args in
-    apart-at (a .a .now) (a .b .now) (c .before .before .before .before .loop .i) (c .if2 .taken)
-
-add-i : tie.Need-add-i Inv-loop μ-loop
-add-i c = omega arith
-
-loop-less : tie.Need-loop-less Inv-loop μ-loop
-loop-less c = omega arith
-
-loop-again : tie.Need-loop-again Inv-loop μ-loop
-loop-again c =
-    let p = c .before .before .before .before .loop .inv in
-    record { within = omega arith; as-long = p .as-long; passed = below-more _ _ (p .passed) (c .if2 .left) }
-
-returns-3 : tie.Need-returns-3 Inv-loop μ-loop
-returns-3 c =
-    let a = c .before .before .before .args in
-    same-all (a .a .now) (a .b .now) (c .before .loop .i) (c .before .loop .inv) (c .loop-test .left)
-
 pub same-bytes-spec : {M : Type 1} → statement M
 same-bytes-spec =
     tie.close
     (tie.spec
     Inv-loop
     μ-loop
-    returns
-    loop-holds
-    shared-slice-read-if2
-    shared-slice-read-if2-2
-    returns-2
-    add-i
-    loop-less
-    loop-again
-    returns-3)
+    (λ c. let x = c .before .args in apart-length (x .a .now) (x .b .now) (c .if1 .taken))
+    (λ c. let x = c .before .args in same-none (x .a .now) (x .b .now) (c .if1 .left))
+    (λ c. search needs)
+    (λ c. let p = c .before .before .before .loop .inv in omega arith)
+    (λ c. let k = c .before .before .before .before in
+    let x = k .before .before .args in
+    apart-at (x .a .now) (x .b .now) (k .loop .i) (c .if2 .taken))
+    (λ c. search needs)
+    (λ c. search needs)
+    (λ c. let k = c .before .before .before .before in
+    let x = k .before .before .args in
+    same-more (x .a .now) (x .b .now) (k .loop .i) (k .loop .inv) (omega arith) (c .if2 .left))
+    (λ c. let x = c .before .before .before .args in
+    same-all (x .a .now) (x .b .now) (c .before .loop .i) (c .before .loop .inv) (c .loop-test .left)))

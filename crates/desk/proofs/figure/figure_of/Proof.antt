@@ -1,24 +1,23 @@
 -- `figure::figure_of` meets its contract: the figure of an accepted sheet, else the sheet's refusal.
 -- Assumes nothing.
-use mathlib.Core.Path.{_≡_, sym, ap, _∙_}
+use mathlib.Core.Path.{_≡_, ap}
 use mathlib.Core.List.{List}
 use Prim.Native.Nat.{ℕ}
 use borrow.Author.Needs.{needs}
-use Rattle.sheet.specs.Layout.{componentCount, actionCount, transitionsAt, stepsAt}
 use Rattle.sheet.specs.Verdict.{Verdict, verdict}
 use Rattle.answers.specs.declared.Answer.{Answer}
-use Rattle.answers.specs.Outcomes.{given, single, outcomeOf}
+use Rattle.answers.specs.Outcomes.{single}
 use Rattle.answers.specs.Figure.{figure, figureOutcome}
-use Rattle.answers.proofs.Passing.{NotAccepted, passed-on, told-given}
+use Rattle.answers.proofs.Passing.{NotAccepted, told-given}
 use Rattle.desk.specs.AcceptedSheet.{AcceptedSheet}
 use Rattle.desk.specs.Calls.{CheckAnswer, FigureAnswer}
-use Rattle.desk.proofs.Accepted.{accepted-sheet}
+use Rattle.desk.proofs.Accepted.{check-accepted, check-refused}
 use Rattle.desk.proofs.figure.figure_of.Statement.{statement}
 use Rattle.desk.proofs.figure.figure_of.Tie as tie
 
 refused-told : (b : List ℕ) (a : Answer) → NotAccepted a → CheckAnswer b a → FigureAnswer b a
 unfolding figureOutcome
-refused-told b a h e = passed-on a h (verdict b) (componentCount b) (actionCount b) (transitionsAt b) (stepsAt b) e single (given (figure b))
+refused-told b a h e = check-refused b a h e single (figure b)
 
 given-told : (b : List ℕ) (f : ℕ) → verdict b ≡ Verdict.accepted → f ≡ figure b → FigureAnswer b (Answer.Given f)
 unfolding figureOutcome
@@ -28,7 +27,7 @@ returns : tie.Need-returns
 returns c = refused-told (c .before .before .before .args .sheet .now) (c .before .check .result) (c .match .keys2) (c .before .check .ensures)
 
 accepted-at : (c : tie.After-known-told) → AcceptedSheet (c .before .before .before .before .before .args .sheet .now) (c .before .answer .given .0 .0)
-accepted-at c = accepted-sheet _ _ (ap outcomeOf (sym (c .before .answer .given .1)) ∙ c .before .before .before .check .ensures)
+accepted-at c = check-accepted _ _ _ (c .before .answer .given .1) (c .before .before .before .check .ensures)
 
 figure-at-requires : tie.Need-figure-at-requires
 figure-at-requires c κs = accepted-at c

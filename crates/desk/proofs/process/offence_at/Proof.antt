@@ -9,33 +9,28 @@ use Rattle.traces.specs.Offences.{firstOffence, offending}
 use Rattle.systems.specs.Independence.{dependent}
 use Rattle.sheet.specs.Layout.{tables}
 use Rattle.answers.proofs.Restated.{accepted-order}
-use Rattle.desk.proofs.Accepted.{section-told, section-over, alphabets-told}
+use Rattle.desk.proofs.Accepted.{section-told, section-over}
 use Rattle.desk.proofs.process.offence_at.Statement.{statement}
 use Rattle.desk.proofs.process.offence_at.Tie as tie
 
 returns : tie.Need-returns
 returns c =
-    let read = c .before .before .before .before in
-    let s = read .before .before .before .before in
+    let cut = c .before .before in
+    let read = cut .before .before in
+    let s = read .before .before .before in
     let b = s .args .sheet .now in
     let z = s .args .sizes in
-    c .first-offence .ensures (tables b) (accepted-order b (s .pre .sheet-accepted))
-    (alphabets-told b z (s .pre) (read .alphabets2 .last .1 .1 .0) (read .alphabets2 .ensures _)) (section-over b z (s .pre))
-    ∙ ap (λ (xs : List ℕ). offending (firstOffence (dependent (tables b)) (map members xs))) (section-told b z (s .pre))
+    let part = cut .step-section .ensures in
+    c .first-offence .ensures (tables b) (accepted-order b (s .pre .sheet-accepted)) (read .alphabets-of .ensures) (section-over b z (s .pre) _ part)
+    ∙ ap (λ (xs : List ℕ). offending (firstOffence (dependent (tables b)) (map members xs))) (section-told b z (s .pre) _ part)
 
 pub offence-at-spec : {M : Type 1} → statement M
 offence-at-spec =
     tie.close
     (tie.spec
     (λ c. search needs)
-    (λ c. search needs)
-    (λ c. search needs)
-    (λ c. search needs)
-    (λ c. search needs)
     (λ c κs. search needs)
-    (λ c. search needs)
-    (λ c. search needs)
-    (λ c. search needs)
+    (λ c κs. search needs)
     (λ c. search needs)
     (λ c κs. search needs)
     returns)

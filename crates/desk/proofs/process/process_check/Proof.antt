@@ -1,6 +1,6 @@
 -- `process::process_check` meets its contract: the first offence among the steps of an accepted sheet, else the sheet's refusal.
 -- Assumes nothing.
-use mathlib.Core.Path.{_≡_, sym, ap, _∙_}
+use mathlib.Core.Path.{_≡_, ap}
 use mathlib.Core.List.{List, map}
 use mathlib.Core.Option.{Option}
 use Prim.Native.Nat.{ℕ}
@@ -8,15 +8,15 @@ use borrow.Author.Needs.{needs}
 use Rattle.sets.specs.Bits.{members}
 use Rattle.traces.specs.Offences.{firstOffence, offending}
 use Rattle.systems.specs.Independence.{dependent}
-use Rattle.sheet.specs.Layout.{componentCount, actionCount, transitionsAt, stepsAt, tables, steps}
+use Rattle.sheet.specs.Layout.{tables, steps}
 use Rattle.sheet.specs.Verdict.{Verdict, verdict}
 use Rattle.answers.specs.declared.Answer.{Answer}
-use Rattle.answers.specs.Outcomes.{given, single, outcomeOf}
+use Rattle.answers.specs.Outcomes.{single}
 use Rattle.answers.specs.ProcessCheck.{processCheck}
-use Rattle.answers.proofs.Passing.{NotAccepted, passed-on, told-given}
+use Rattle.answers.proofs.Passing.{NotAccepted, told-given}
 use Rattle.desk.specs.AcceptedSheet.{AcceptedSheet}
 use Rattle.desk.specs.Calls.{CheckAnswer, ProcessAnswer}
-use Rattle.desk.proofs.Accepted.{accepted-sheet}
+use Rattle.desk.proofs.Accepted.{check-accepted, check-refused}
 use Rattle.desk.proofs.process.process_check.Statement.{statement}
 use Rattle.desk.proofs.process.process_check.Tie as tie
 
@@ -25,8 +25,7 @@ offence b = firstOffence (dependent (tables b)) (map members (steps b))
 
 refused-told : (b : List ℕ) (a : Answer) → NotAccepted a → CheckAnswer b a → ProcessAnswer b a
 unfolding processCheck
-refused-told b a h e =
-    passed-on a h (verdict b) (componentCount b) (actionCount b) (transitionsAt b) (stepsAt b) e (λ o. single (offending o)) (given (offence b))
+refused-told b a h e = check-refused b a h e (λ o. single (offending o)) (offence b)
 
 given-told : (b : List ℕ) (x : ℕ) → verdict b ≡ Verdict.accepted → x ≡ offending (offence b) → ProcessAnswer b (Answer.Given x)
 unfolding processCheck
@@ -36,7 +35,7 @@ returns : tie.Need-returns
 returns c = refused-told (c .before .before .before .args .sheet .now) (c .before .check .result) (c .match .keys2) (c .before .check .ensures)
 
 accepted-at : (c : tie.After-known-told) → AcceptedSheet (c .before .before .before .before .before .args .sheet .now) (c .before .answer .given .0 .0)
-accepted-at c = accepted-sheet _ _ (ap outcomeOf (sym (c .before .answer .given .1)) ∙ c .before .before .before .check .ensures)
+accepted-at c = check-accepted _ _ _ (c .before .answer .given .1) (c .before .before .before .check .ensures)
 
 offence-at-requires : tie.Need-offence-at-requires
 offence-at-requires c κs = accepted-at c

@@ -1,19 +1,18 @@
 -- `stuck::is_stuck` meets its contract: whether an accepted sheet is stuck, else the sheet's refusal.
 -- Assumes nothing.
-use mathlib.Core.Path.{_≡_, sym, ap, _∙_}
+use mathlib.Core.Path.{_≡_, ap, _∙_}
 use mathlib.Core.Bool.{Bool}
 use mathlib.Core.List.{List}
 use Prim.Native.Nat.{ℕ}
 use borrow.Author.Needs.{needs}
-use Rattle.sheet.specs.Layout.{componentCount, actionCount, transitionsAt, stepsAt}
 use Rattle.sheet.specs.Verdict.{Verdict, verdict}
 use Rattle.answers.specs.declared.Answer.{Answer}
-use Rattle.answers.specs.Outcomes.{given, single, bit, outcomeOf}
+use Rattle.answers.specs.Outcomes.{single, bit}
 use Rattle.answers.specs.Stuck.{stuck, stuckOutcome}
-use Rattle.answers.proofs.Passing.{NotAccepted, passed-on, told-given}
+use Rattle.answers.proofs.Passing.{NotAccepted, told-given}
 use Rattle.desk.specs.AcceptedSheet.{AcceptedSheet}
 use Rattle.desk.specs.Calls.{CheckAnswer, StuckAnswer}
-use Rattle.desk.proofs.Accepted.{accepted-sheet}
+use Rattle.desk.proofs.Accepted.{check-accepted, check-refused}
 use Rattle.desk.proofs.stuck.is_stuck.Statement.{statement}
 use Rattle.desk.proofs.stuck.is_stuck.Tie as tie
 
@@ -22,7 +21,7 @@ yesNo t = single (bit t)
 
 refused-told : (b : List ℕ) (a : Answer) → NotAccepted a → CheckAnswer b a → StuckAnswer b a
 unfolding stuckOutcome
-refused-told b a h e = passed-on a h (verdict b) (componentCount b) (actionCount b) (transitionsAt b) (stepsAt b) e yesNo (given (stuck b))
+refused-told b a h e = check-refused b a h e yesNo (stuck b)
 
 given-told : (b : List ℕ) (x : ℕ) (t : Bool) → verdict b ≡ Verdict.accepted → x ≡ bit t → t ≡ stuck b → StuckAnswer b (Answer.Given x)
 unfolding stuckOutcome
@@ -33,7 +32,7 @@ returns c =
     refused-told (c .before .before .before .args .sheet .now) (c .before .end-sets .result .answer) (c .match .keys2) (c .before .end-sets .ensures .answer-told)
 
 accepted-at : (c : tie.After-known-told) → AcceptedSheet (c .before .before .before .before .before .args .sheet .now) (c .before .answer .given .0 .0)
-accepted-at c = accepted-sheet _ _ (ap outcomeOf (sym (c .before .answer .given .1)) ∙ c .before .before .before .end-sets .ensures .answer-told)
+accepted-at c = check-accepted _ _ _ (c .before .answer .given .1) (c .before .before .before .end-sets .ensures .answer-told)
 
 stuck-at-requires : tie.Need-stuck-at-requires
 stuck-at-requires c κs =

@@ -12,7 +12,7 @@ use Rattle.answers.specs.Outcomes.{outcomeOf}
 use Rattle.answers.proofs.Passing.{stopped-by}
 use Rattle.desk.specs.AcceptedSheet.{AcceptedSheet}
 use Rattle.desk.proofs.Accepted.{accepted-sheet}
-use Rattle.desk.proofs.verdict.EndArrays.{ends-refused, ends-kept}
+use Rattle.desk.proofs.verdict.EndArrays.{ends-refused, ends-first}
 use Rattle.desk.proofs.verdict.end_sets.Statement.{statement}
 use Rattle.desk.proofs.verdict.end_sets.Tie as tie
 
@@ -51,7 +51,7 @@ returns-2 : tie.Need-returns-2
 returns-2 c =
     let k = c .before .before in
     let d = judged-at k in
-    ends-kept (sheet-at d) (d .judge .result) (held-at d) (d .judge .ensures) _ (k .before .answer .given .1) (sizes-at k) (accepted-at k) (c .first-sets .ensures)
+    ends-first (sheet-at d) (d .judge .result) (held-at d) (d .judge .ensures) _ (k .before .answer .given .1) (sizes-at k) (accepted-at k) (c .first-sets .ensures)
 
 pub end-sets-spec : {M : Type 1} → statement M
 end-sets-spec = tie.close (tie.spec (λ c. search needs) (λ c κs. search needs) (λ c. search needs) returns (λ c. search needs) first-sets-requires returns-2)

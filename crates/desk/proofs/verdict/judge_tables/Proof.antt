@@ -1,6 +1,6 @@
 -- `verdict::judge_tables` meets its contract: the refusal of the tables, or what the run over the parts of the sheet answers and leaves.
 -- Assumes nothing.
-use mathlib.Core.Path.{_≡_, sym, ap, _∙_}
+use mathlib.Core.Path.{_≡_, sym, ap, subst, _∙_}
 use mathlib.Core.List.{List}
 use native.Mathlib.Omega.{arith}
 use Prim.Native.Nat.{ℕ, _+_, _≤_}
@@ -10,11 +10,12 @@ use borrow.Author.Needs.{needs}
 use Rattle.sheet.specs.Limits.{InLimits}
 use Rattle.sheet.specs.Verdict.{accepted, tablesVerdict}
 use Rattle.answers.specs.declared.Sizes.{Sizes}
+use Rattle.answers.specs.declared.Answer.{Answer}
 use Rattle.answers.specs.declared.Answer.the-variants.{Accepted as AcceptedAnswer}
 use Rattle.answers.specs.Outcomes.{outcomeOf, readOutcome}
-use Rattle.desk.specs.Left.{ParticipantsLeft}
-use Rattle.machine.proofs.Running.{front-sound, section-short}
-use Rattle.desk.proofs.verdict.Judging.{refused-ends, refused-participants, tables-stopped, tables-verdict, tables-told-accepted, known-sizes, known-told, read-limits, run-accepted, run-refused, run-participants}
+use Rattle.desk.specs.Left.{EndsLeft, ParticipantsLeft}
+use Rattle.machine.proofs.Running.{front-checked, section-short}
+use Rattle.desk.proofs.verdict.Judging.{refused-ends, refused-participants, tables-stopped, tables-verdict, tables-told-accepted, known-sizes, known-told, read-limits, run-answered, run-participants}
 use Rattle.desk.proofs.verdict.judge_tables.Statement.{statement}
 use Rattle.desk.proofs.verdict.judge_tables.Tie as tie
 
@@ -65,20 +66,14 @@ steps-at c =
     let e = tables-told-accepted (sheet-at (read-at c)) (sizes-at c) (start-at (read-at c) .pre .0) (sizes-at c) (told-at c) .4 in
     omega arith
 
-sub-end : tie.Need-sub-end
-sub-end c = let h = steps-at c in omega arith
-
 slice-aggregate-run-from-start : tie.Need-slice-aggregate-run-from-start
 slice-aggregate-run-from-start c =
     let k = c .before in
     let h = steps-at k in
     sym (length-take-le (sizes-at k .s) (sheet-at (read-at k)) (omega arith))
 
-sub-run-from-start : tie.Need-sub-run-from-start
-sub-run-from-start c = let h = steps-at (c .before) in omega arith
-
-part-run-from-start-start : tie.Need-part-run-from-start-start
-part-run-from-start-start c = let h = steps-at (c .before) in omega arith
+step-section-requires : tie.Need-step-section-requires
+step-section-requires c κs = steps-at (c .before)
 
 run-from-start-requires : tie.Need-run-from-start-requires
 run-from-start-requires c κs =
@@ -88,8 +83,8 @@ run-from-start-requires c κs =
     let b = sheet-at r in
     let z = sizes-at k in
     let told = tables-told-accepted b z (s .pre .0) z (told-at k) in (
-      front-sound b (z .n) (z .m) (z .s) (told .1) (told .2) (told .4) (limits-at k),
-      section-short b (z .s) (told .4) (limits-at k),
+      front-checked b (z .n) (z .m) (z .s) (told .1) (told .2) (told .4) (limits-at k),
+      rw (c .before .before .before .step-section .ensures) (section-short b (z .s) (told .4) (limits-at k)),
       s .pre .2,
       r .read-tables .ensures .1 (k .before .read .given .1 ∙ ap AcceptedAnswer (same-at k)),
       s .pre .1,
@@ -109,19 +104,12 @@ participants-left c =
 returns-2 : tie.Need-returns-2
 returns-2 c =
     let ran = c .before .before .before .before .before in
-    let k = known-at ran in (
-      run-accepted (sheet-at (read-at k)) (sizes-at k) (start-at (read-at k) .pre .0) (sizes-at k) (told-at k) (ran .run-from-start .result)
-          (ran .run-from-start .last .1 .1 .1 .1 .1 .1 .0) (ran .run-from-start .ensures .0) (c .match2 .keys2),
-      participants-left ran,
-    )
-
-returns-3 : tie.Need-returns-3
-returns-3 c =
-    let g = c .before .ran .given in
-    let ran = c .before .before .before .before .before .before .before in
-    let k = known-at ran in (
-      run-refused (sheet-at (read-at k)) (sizes-at k) (start-at (read-at k) .pre .0) (sizes-at k) (told-at k) (ran .run-from-start .result)
-          (ran .run-from-start .last .1 .1 .1 .1 .1 .1 .0) (ran .run-from-start .ensures .0) (g .0 .0) (g .0 .1 .0) (g .0 .1 .1 .0) (g .1),
+    let k = known-at ran in
+    let b = sheet-at (read-at k) in
+    let held = ran .run-from-start .last .1 .1 .1 .1 .1 .1 .0 in (
+      subst (λ (a : Answer). EndsLeft b a held) (sym (c .refusal-or-sizes .ensures))
+          (run-answered b (sizes-at k) (start-at (read-at k) .pre .0) (sizes-at k) (told-at k) _ (ran .before .before .before .before .step-section .ensures)
+          (ran .run-from-start .result) held (ran .run-from-start .ensures .0)),
       participants-left ran,
     )
 
@@ -133,17 +121,11 @@ judge-tables-spec =
     (λ c κs. search needs)
     (λ c. search needs)
     returns
-    sub-end
     slice-aggregate-run-from-start
-    sub-run-from-start
-    part-run-from-start-start
-    (λ c. search needs)
+    step-section-requires
     (λ c. search needs)
     run-from-start-requires
+    (λ c κs. search needs)
     (λ c. search needs)
     (λ c. search needs)
-    (λ c. search needs)
-    returns-2
-    (λ c. search needs)
-    (λ c. search needs)
-    returns-3)
+    returns-2)

@@ -3,12 +3,12 @@
 use Prim.Native.Nat.{_-_}
 use native.Mathlib.Omega.{arith}
 use borrow.Author.Needs.{needs}
-use Rattle.oatmist.proofs.convention.Copying.{Copied, copied-none, copied-more, copied-all}
+use Rattle.oatmist.proofs.convention.Copying.{CopiedUpTo, copied-none, copied-more, copied-all}
 use Rattle.oatmist.proofs.convention.fill.Statement.{statement}
 use Rattle.oatmist.proofs.convention.fill.Tie as tie
 
 abbrev Inv-loop : tie.InvT-loop
-Inv-loop values out₀ count k₀ out k = Copied values out₀ count k out
+Inv-loop values out₀ count k₀ out k = CopiedUpTo values out₀ count k out
 
 abbrev μ-loop : tie.MeasureT-loop
 μ-loop values out₀ count k₀ out k = count - k

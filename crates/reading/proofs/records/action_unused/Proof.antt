@@ -12,8 +12,8 @@ use Rattle.reading.proofs.records.action_unused.Tie as tie
 
 returns : tie.Need-returns
 returns c =
-    let f = c .before .full in
-    let u = c .used in
+    let f = c .before .all-actions in
+    let u = c .actions-used in
     ap (λ (all : ℕ). not (eqb (bitAnd (u .result) all) all)) (f .ensures) ∙ lacks (u .result) (c .before .before .before .args .m) _ (u .ensures .exact)
 
 pub action-unused-spec : {M : Type 1} → statement M

@@ -45,12 +45,12 @@ returns c =
     let k = c .before in
     let a = k .before .before .before .before .args in
     let w = k .before .wide in
-    states-wrong (a .records .now) (a .m) (a .j) (w .result) (w .ensures .0) (sym (k .miscounted .ensures) ∙ c .if1 .taken)
+    states-wrong (a .records .now) (a .m) (a .j) (w .result) (w .ensures .0) (sym (k .out-of-range .ensures) ∙ c .if1 .taken)
 
 misses-requires : tie.Need-misses-requires
 misses-requires c κs =
     let e = c .before .before in
-    states-fit (e .before .before .wide .result) (e .before .miscounted .result) (e .before .miscounted .ensures) (e .if1 .left)
+    states-fit (e .before .before .wide .result) (e .before .out-of-range .result) (e .before .out-of-range .ensures) (e .if1 .left)
 
 returns-2 : tie.Need-returns-2
 returns-2 c =
@@ -59,8 +59,8 @@ returns-2 c =
     let k = f .before .before in
     let a = k .before .before .before .before .args in
     let w = k .before .wide in
-    sets-tested (a .records .now) (a .m) (a .j) (w .result) (w .ensures .0) (f .filled .result) (i .misses .result) (c .misses2 .result)
-    (sym (k .miscounted .ensures) ∙ f .before .if1 .left) (f .filled .ensures)
+    sets-tested (a .records .now) (a .m) (a .j) (w .result) (w .ensures .0) (f .filler-set .result) (i .misses .result) (c .misses2 .result)
+    (sym (k .out-of-range .ensures) ∙ f .before .if1 .left) (f .filler-set .ensures)
     (i .misses .ensures ∙ ap (missing (w .result)) (i .before .number4 .ensures .0))
     (c .misses2 .ensures ∙ ap (missing (a .m)) (c .before .number8 .ensures))
 

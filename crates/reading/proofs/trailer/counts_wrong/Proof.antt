@@ -11,7 +11,7 @@ returns c =
     let second = c .before .wide2 in
     let tested = c .before .before .before in
     let first = tested .before .wide in
-    ap₂ (λ (p q : Bool). p || q) (tested .beyond .ensures) (c .beyond2 .ensures)
+    ap₂ (λ (p q : Bool). p || q) (tested .out-of-range .ensures) (c .out-of-range2 .ensures)
     ∙ sym (counts-read (tested .before .before .before .before .args .sheet .now) (first .result) (second .result) (first .ensures .0) (second .ensures .0))
 
 pub counts-wrong-spec : {M : Type 1} → statement M

@@ -6,7 +6,7 @@ use Rattle.reading.proofs.trailer.length_wrong.Tie as tie
 
 returns : tie.Need-returns
 unfolding lengthWrong
-returns c = c .beyond .ensures
+returns c = c .out-of-range .ensures
 
 pub length-wrong-spec : {M : Type 1} → statement M
 length-wrong-spec = tie.close (tie.spec (λ c κs. search needs) returns)

@@ -27,7 +27,7 @@ module _ (b : List ℕ) (c t s : ℕ) (ec : c ≡ field (length b - 10) 2 b) (et
   unfolding offsetsWrong recordsAt transitionsAt stepsAt
   steps-placed h n en x y ex ey = rw (← ec, ← et, ← es, h, or-false, components-read b, ← en, ex, ey) (simp or-assoc)
 
-abbrev sheet-at : tie.After-beyond → List ℕ
+abbrev sheet-at : tie.After-out-of-range → List ℕ
 sheet-at c = c .before .before .before .before .before .args .sheet .now
 
 returns : tie.Need-returns
@@ -37,11 +37,11 @@ returns c =
     let t = s .before in
     let o = t .before in
     steps-misplaced (sheet-at k) (o .number2 .result) (t .number22 .result) (s .number23 .result) (o .number2 .ensures .0) (t .number22 .ensures .0)
-    (s .number23 .ensures .0) (sym (k .beyond .ensures) ∙ c .if1 .taken)
+    (s .number23 .ensures .0) (sym (k .out-of-range .ensures) ∙ c .if1 .taken)
 
 within : (c : tie.Else1) → let s = c .before .before in
     (s .before .number22 .result ≤ s .number23 .result) × (s .number23 .result ≤ length (sheet-at (c .before)) - 10)
-within c = inside _ _ _ .0 (sym (c .before .beyond .ensures) ∙ c .if1 .left)
+within c = inside _ _ _ .0 (sym (c .before .out-of-range .ensures) ∙ c .if1 .left)
 
 returns-2 : tie.Need-returns-2
 returns-2 c =
@@ -52,8 +52,8 @@ returns-2 c =
     let t = s .before in
     let o = t .before in
     steps-placed (sheet-at k) (o .number2 .result) (t .number22 .result) (s .number23 .result) (o .number2 .ensures .0) (t .number22 .ensures .0)
-    (s .number23 .ensures .0) (sym (k .beyond .ensures) ∙ e .if1 .left) (w .wide .result) (w .wide .ensures .0) (c .before .uneven .result) (c .uneven2 .result)
-    (c .before .uneven .ensures) (c .uneven2 .ensures)
+    (s .number23 .ensures .0) (sym (k .out-of-range .ensures) ∙ e .if1 .left) (w .wide .result) (w .wide .ensures .0) (c .before .section-length-wrong .result) (c .section-length-wrong2 .result)
+    (c .before .section-length-wrong .ensures) (c .section-length-wrong2 .ensures)
 
 pub offsets-wrong-spec : {M : Type 1} → statement M
 offsets-wrong-spec =

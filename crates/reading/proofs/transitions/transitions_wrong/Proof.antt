@@ -8,7 +8,7 @@ use Prim.Native.Nat.{ℕ, _+_, _*_, _/_, _-_, _≤_, _<_}
 use native.Mathlib.Omega.{arith}
 use lib.ListN.{length, getD, take, drop}
 use borrow.Author.Needs.{needs}
-use Rattle.sets.specs.Lists.{some}
+use Rattle.sets.specs.Lists.{anyOf}
 use Rattle.sets.proofs.Bools.{leb-true}
 use Rattle.systems.specs.Tables.{Tables}
 use Rattle.sheet.specs.Layout.{statesOf, transitionOf, tablesOf}
@@ -26,14 +26,14 @@ use Rattle.reading.proofs.transitions.transitions_wrong.Tie as tie
 
 -- some of them is wrong
 abbrev left : Tables → ℕ → ℕ → List ℕ → Bool
-left T n k b = some (transitionWrong T) (map transitionOf (partsFrom 4 n k b))
+left T n k b = anyOf (transitionWrong T) (map transitionOf (partsFrom 4 n k b))
 
 -- the same from the next part on, by the answer r to part k
 left-next : (T : Tables) (n k : ℕ) (b : List ℕ) (all told r : Bool) → k < n → all ≡ left T n k b
     → told ≡ transitionWrong T (transitionOf (take 4 (drop (4 * k) b))) → told ≡ r → all ≡ (r || left T n (k + 1) b)
 left-next T n k b all told r h e f g =
     e
-    ∙ ap (λ (l : List (List ℕ)). some (transitionWrong T) (map transitionOf l)) (parts-next 4 n k b h)
+    ∙ ap (λ (l : List (List ℕ)). anyOf (transitionWrong T) (map transitionOf l)) (parts-next 4 n k b h)
     ∙ ap (λ (t : Bool). t || left T n (k + 1) b) (sym f ∙ g)
 
 component-wrong : (T : Tables) (b : List ℕ) (at : ℕ) → T .components ≤ getD b at 0 → true ≡ transitionWrong T (transitionOf (take 4 (drop at b)))
@@ -62,7 +62,7 @@ kept T component i s a j states alphabet h e f g k = (f ∙ e, rw (f, g, k) h)
 abbrev Inv-loop : tie.InvT-loop
 Inv-loop section records alphabets n count current₀ states₀ alphabet₀ k₀ current states alphabet k =
     let T = sectionTables records section n 0 in
-    (count ≡ length section / 4) × AtHand T current states alphabet × (some (transitionWrong T) (T .transitions) ≡ left T count k section)
+    (count ≡ length section / 4) × AtHand T current states alphabet × (anyOf (transitionWrong T) (T .transitions) ≡ left T count k section)
 
 abbrev μ-loop : tie.MeasureT-loop
 μ-loop section records alphabets n count current₀ states₀ alphabet₀ k₀ current states alphabet k =
@@ -76,7 +76,7 @@ loop-holds c =
     let T = sectionTables (a .records .now) b (a .n) 0 in (
       refl,
       loaded (a .records .now) b (a .alphabets .now) (a .n) 0 (s .pre .3) (omega arith),
-      ap (λ (l : List (List ℕ)). some (transitionWrong T) (map transitionOf l)) (sym (parts-first 4 (length b / 4) b)),
+      ap (λ (l : List (List ℕ)). anyOf (transitionWrong T) (map transitionOf l)) (sym (parts-first 4 (length b / 4) b)),
     )
 
 -- the arguments, and the tables that they say
@@ -90,7 +90,7 @@ wanted c = sectionTables (start c .args .records .now) (start c .args .section .
 passed : (c : tie.In-loop Inv-loop μ-loop) (r told : Bool)
     → told ≡ transitionWrong (wanted c) (transitionOf (take 4 (drop (4 * c .before .loop .k) (start c .args .section .now)))) → told ≡ r
     → let b = start c .args .section .now in
-    some (transitionWrong (wanted c)) (wanted c .transitions) ≡ (r || left (wanted c) (length b / 4) (c .before .loop .k + 1) b)
+    anyOf (transitionWrong (wanted c)) (wanted c .transitions) ≡ (r || left (wanted c) (length b / 4) (c .before .loop .k + 1) b)
 passed c r told f e =
     let b = start c .args .section .now in
     let l = c .before .loop in
@@ -121,21 +121,21 @@ at-hand c =
     (c .if1 .came)
 
 -- the answer to part k
-tested : (c : tie.After-unfit-at Inv-loop μ-loop)
+tested : (c : tie.After-transition-wrong Inv-loop μ-loop)
     → let i = c .before .before .before in
-    c .unfit-at .result ≡ transitionWrong (wanted i) (transitionOf (take 4 (drop (4 * i .before .loop .k) (start i .args .section .now))))
+    c .transition-wrong .result ≡ transitionWrong (wanted i) (transitionOf (take 4 (drop (4 * i .before .loop .k) (start i .args .section .now))))
 tested c =
     let h = at-hand (c .before) in
-    c .unfit-at .ensures (wanted (c .before .before .before)) (rw (h .0) at (h .1))
+    c .transition-wrong .ensures (wanted (c .before .before .before)) (rw (h .0) at (h .1))
 
 returns-2 : tie.Need-returns-2 Inv-loop μ-loop
 returns-2 c =
-    sym (passed (c .before .before .before .before) true (c .before .unfit-at .result) (tested (c .before)) (c .if3 .taken))
+    sym (passed (c .before .before .before .before) true (c .before .transition-wrong .result) (tested (c .before)) (c .if3 .taken))
 
 loop-again : tie.Need-loop-again Inv-loop μ-loop
 loop-again c =
     let j = c .before .before in
-    (refl, at-hand j .1, passed (j .before .before) false (c .before .unfit-at .result) (tested (c .before)) (c .if3 .left))
+    (refl, at-hand j .1, passed (j .before .before) false (c .before .transition-wrong .result) (tested (c .before)) (c .if3 .left))
 
 returns-3 : tie.Need-returns-3 Inv-loop μ-loop
 returns-3 c =
@@ -145,7 +145,7 @@ returns-3 c =
     let T = sectionTables (a .records .now) b (a .n) 0 in
     sym
     (l .inv .2
-    ∙ ap (λ (ps : List (List ℕ)). some (transitionWrong T) (map transitionOf ps)) (parts-none 4 (length b / 4) (l .k) b (c .loop-test .left)))
+    ∙ ap (λ (ps : List (List ℕ)). anyOf (transitionWrong T) (map transitionOf ps)) (parts-none 4 (length b / 4) (l .k) b (c .loop-test .left)))
 
 pub transitions-wrong-spec : {M : Type 1} → statement M
 transitions-wrong-spec =

@@ -1,0 +1,11 @@
+-- A quoted text as bytes.
+-- Assumes nothing.
+use mathlib.Core.List.{List, [], _∷_}
+use Prim.Native.Nat.{ℕ}
+use Prim.Native.Char.{code}
+use Prim.Native.String.{String}
+
+-- the codes of its characters
+abbrev pub textOf : String → List ℕ
+textOf String.[] = []
+textOf (String._∷_ c s) = code c ∷ textOf s

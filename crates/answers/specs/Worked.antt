@@ -1,0 +1,176 @@
+-- Worked answers: for some sheets, what each call tells and what is printed, number by number and byte by byte. Each definition of an answer
+-- has a sheet here that is accepted and one that is refused.
+-- Sets are written as binary numerals, as in Starred.
+-- Assumes nothing.
+use mathlib.Core.Bool.{Bool, true, false, _&&_}
+use mathlib.Core.List.{List, [], _∷_, _++_}
+use Prim.Native.Nat.{ℕ, _-_, _^_}
+use lib.Dec.{eqb}
+use lib.ListN.{replicate}
+use Rattle.sets.specs.Lists.{appendAll}
+use Rattle.traces.specs.Offences.{offending}
+use Rattle.sheet.specs.Refusals.{sameBytes}
+use Rattle.sheet.specs.Verdict.{verdict}
+use Rattle.sheet.specs.Writing.{sheetOf}
+use Rattle.answers.specs.Outcomes.{Outcome, given, refused, values, single, bit, readOutcome}
+use Rattle.answers.specs.EndSets.{endsOutcome}
+use Rattle.answers.specs.ProcessCheck.{processCheck}
+use Rattle.answers.specs.Restated.{restatedSteps}
+use Rattle.answers.specs.Restating.{restating}
+use Rattle.answers.specs.SameWork.{sameWork}
+use Rattle.answers.specs.Leaner.{winner, leaner}
+use Rattle.answers.specs.Figure.{figureOutcome}
+use Rattle.answers.specs.Stuck.{stuckOutcome}
+use Rattle.answers.specs.Report.{report, reporting, reportOutput}
+use Rattle.answers.specs.Quoted.{textOf}
+use Rattle.answers.specs.Pair.{recordBytes, pairSheet}
+use Rattle.answers.specs.Starred.{workedSheet}
+
+-- ---- the sheets
+
+-- over Pair, and in the same normal form: {0} {1} and {1} {0}
+abbrev pub zeroOne : List ℕ
+zeroOne = pairSheet (0b1 ∷ 0b10 ∷ [])
+
+abbrev pub oneZero : List ℕ
+oneZero = pairSheet (0b10 ∷ 0b1 ∷ [])
+
+-- {0} {0}: action 0 is not enabled before the second step
+abbrev pub refusedSheet : List ℕ
+refusedSheet = pairSheet (0b1 ∷ 0b1 ∷ [])
+
+-- {0,1} {2} in turn, 48 times, then {0} {0}: action 0 is not enabled before the step with index 97
+abbrev pub longRefusedSheet : List ℕ
+longRefusedSheet = pairSheet (appendAll (replicate 48 (0b11 ∷ 0b100 ∷ [])) ++ (0b1 ∷ 0b1 ∷ []))
+
+-- {0} {1} {2} in turn, eight steps in all
+abbrev pub eightSheet : List ℕ
+eightSheet = pairSheet (0b1 ∷ 0b10 ∷ 0b100 ∷ 0b1 ∷ 0b10 ∷ 0b100 ∷ 0b1 ∷ 0b10 ∷ [])
+
+-- the smallest sheet: one component with one state and no transition is stuck at once
+abbrev pub smallestSheet : List ℕ
+smallestSheet = sheetOf (recordBytes 1 0b1 0b1) 1 1 []
+
+-- component 0 has action 0, component 1 has actions 1 and 2; each has one state, and can always do its actions
+abbrev pub loopSheet : List ℕ → List ℕ
+loopSheet xs =
+    sheetOf (recordBytes 1 0b1 0b1 ++ (recordBytes 1 0b1 0b110 ++ (0 ∷ 0 ∷ 0 ∷ 0 ∷ 1 ∷ 0 ∷ 1 ∷ 0 ∷ 1 ∷ 0 ∷ 2 ∷ 0 ∷ []))) 2 3 xs
+
+-- sixteen components and 64 actions: component 15 has 32 states, and goes by action 63 from state 30 to state 31
+abbrev pub widestSheet : List ℕ
+widestSheet =
+    sheetOf
+    (recordBytes 1 0b1 (2 ^ 63 - 1)
+    ++ (appendAll (replicate 14 (recordBytes 1 0b1 0b1))
+    ++ (recordBytes 32 (2 ^ 30) (2 ^ 63)
+    ++ (15 ∷ 30 ∷ 63 ∷ 31 ∷ []))))
+    16 64 (2 ^ 63 ∷ [])
+
+-- the same bytes before S as four records of 16 bytes and four transitions, or as five records: the two sheets differ in n alone
+abbrev frontBytes : List ℕ
+frontBytes =
+    appendAll (replicate 4 (recordBytes 2 0b1 (2 ^ 41 - 1)))
+    ++ (2 ∷ 0 ∷ 0 ∷ 0 ∷ 3 ∷ 0 ∷ 0 ∷ 0 ∷ 3 ∷ 0 ∷ 0 ∷ 1 ∷ 3 ∷ 1 ∷ 0 ∷ 0 ∷ [])
+
+abbrev pub fourSheet : List ℕ
+fourSheet = sheetOf frontBytes 4 41 []
+
+abbrev pub fiveSheet : List ℕ
+fiveSheet = sheetOf frontBytes 5 41 []
+
+-- ---- the table
+
+-- what the definitions give, and what it is to be
+pub record Worked : Type 0 where
+  pub found : Outcome (List ℕ)
+  pub due : Outcome (List ℕ)
+
+abbrev row : Outcome (List ℕ) → Outcome (List ℕ) → Worked
+row x y = record { found = x; due = y }
+
+-- the check, a number, a yes or no, the process check as one number
+abbrev sizesTold : List ℕ → Outcome (List ℕ)
+sizesTold b = readOutcome b (verdict b)
+
+abbrev numberTold : Outcome ℕ → Outcome (List ℕ)
+numberTold o = values single o
+
+abbrev bitTold : Outcome Bool → Outcome (List ℕ)
+bitTold o = values (λ t. single (bit t)) o
+
+abbrev processTold : List ℕ → Outcome (List ℕ)
+processTold b = values (λ o. single (offending o)) (processCheck b)
+
+abbrev pub worked : List Worked
+worked =
+    -- n, m, T and S
+    row (sizesTold workedSheet) (given (2 ∷ 3 ∷ 32 ∷ 52 ∷ []))
+    ∷ row (sizesTold refusedSheet) (refused 12 1 0)
+    -- the figure: four actions in three steps
+    ∷ row (numberTold (figureOutcome workedSheet)) (given (13 ∷ []))
+    ∷ row (numberTold (figureOutcome refusedSheet)) (refused 12 1 0)
+    -- stuck
+    ∷ row (bitTold (stuckOutcome workedSheet)) (given (0 ∷ []))
+    ∷ row (bitTold (stuckOutcome smallestSheet)) (given (1 ∷ []))
+    ∷ row (bitTold (stuckOutcome refusedSheet)) (refused 12 1 0)
+    -- the end sets: {1}, {0}, and none beyond the two components
+    ∷ row (endsOutcome workedSheet) (given (0b10 ∷ 0b1 ∷ replicate 14 0))
+    ∷ row (endsOutcome refusedSheet) (refused 12 1 0)
+    -- the process check: yes; or the step with index 1
+    ∷ row (processTold (pairSheet (0b11 ∷ 0b100 ∷ 0b1 ∷ []))) (given (0 ∷ []))
+    ∷ row (processTold workedSheet) (given (2 ∷ []))
+    ∷ row (processTold refusedSheet) (refused 12 1 0)
+    -- W2: of the step {0,2}, action 0 moves forward and action 2 stays
+    ∷ row (given (restatedSteps (loopSheet (0b10 ∷ 0b101 ∷ [])))) (given (0b11 ∷ 0b100 ∷ []))
+    -- W3: action 0 moves forward by two steps; and 2 before 1 stays so
+    ∷ row (given (restatedSteps (loopSheet (0b10 ∷ 0b100 ∷ 0b1 ∷ [])))) (given (0b11 ∷ 0b100 ∷ []))
+    ∷ row (given (restatedSteps (loopSheet (0b100 ∷ 0b10 ∷ [])))) (given (0b100 ∷ 0b10 ∷ []))
+    -- restating: 86 bytes, one too few, a refused sheet whatever the room
+    ∷ row (numberTold (restating workedSheet 86)) (given (86 ∷ []))
+    ∷ row (numberTold (restating workedSheet 85)) (refused 13 0 0)
+    ∷ row (numberTold (restating refusedSheet 0)) (refused 12 1 0)
+    -- the report: its length, one byte too few, a refused sheet; the bytes behind it stay, and so do all where it is refused
+    ∷ row (numberTold (reporting workedSheet 57)) (given (57 ∷ []))
+    ∷ row (numberTold (reporting workedSheet 56)) (refused 13 0 0)
+    ∷ row (numberTold (reporting refusedSheet 15)) (given (13 ∷ []))
+    ∷ row (given (reportOutput refusedSheet (textOf "---------------"))) (given (textOf "refused 12 1\n--"))
+    ∷ row (given (reportOutput refusedSheet (textOf "------------"))) (given (textOf "------------"))
+    -- the leaner sheet: the second, the first, the first in a tie; refusals of the first, of the second, of the pair
+    ∷ row (numberTold (winner workedSheet zeroOne)) (given (1 ∷ []))
+    ∷ row (numberTold (winner zeroOne workedSheet)) (given (0 ∷ []))
+    ∷ row (numberTold (winner zeroOne oneZero)) (given (0 ∷ []))
+    ∷ row (numberTold (winner refusedSheet longRefusedSheet)) (refused 12 1 0)
+    ∷ row (numberTold (winner workedSheet refusedSheet)) (refused 12 1 1)
+    ∷ row (numberTold (winner workedSheet smallestSheet)) (refused 14 0 0)
+    -- 14 where the sheets differ in n alone
+    ∷ row (sizesTold fourSheet) (given (4 ∷ 41 ∷ 64 ∷ 80 ∷ []))
+    ∷ row (sizesTold fiveSheet) (given (5 ∷ 41 ∷ 80 ∷ 80 ∷ []))
+    ∷ row (numberTold (winner fourSheet fiveSheet)) (refused 14 0 0)
+    -- its step section
+    ∷ row (given (leaner workedSheet zeroOne)) (given (1 ∷ 0 ∷ 0 ∷ 0 ∷ 0 ∷ 0 ∷ 0 ∷ 0 ∷ 2 ∷ 0 ∷ 0 ∷ 0 ∷ 0 ∷ 0 ∷ 0 ∷ 0 ∷ []))
+    ∷ row (given (leaner oneZero zeroOne)) (given (2 ∷ 0 ∷ 0 ∷ 0 ∷ 0 ∷ 0 ∷ 0 ∷ 0 ∷ 1 ∷ 0 ∷ 0 ∷ 0 ∷ 0 ∷ 0 ∷ 0 ∷ 0 ∷ []))
+    ∷ row (given (leaner workedSheet refusedSheet)) (given [])
+    -- same work
+    ∷ row (bitTold (sameWork zeroOne oneZero)) (given (1 ∷ []))
+    ∷ row (bitTold (sameWork zeroOne workedSheet)) (given (0 ∷ []))
+    ∷ row (bitTold (sameWork refusedSheet zeroOne)) (refused 12 1 0)
+    ∷ row (bitTold (sameWork zeroOne smallestSheet)) (refused 14 0 0)
+    -- the texts
+    ∷ row (given (report longRefusedSheet)) (given (textOf "refused 12 97\n"))
+    ∷ row (given (report smallestSheet)) (given (textOf "accepted 0 0 0 1\nend 0 0\n"))
+    ∷ row (given (report eightSheet))
+    (given (textOf "accepted 8 5 16 0\nstep 0 1\nstep 2\nstep 0 1\nstep 2\nstep 0 1\nend 0 1\nend 1 1 2\n"))
+    ∷ row (given (report widestSheet))
+    (given (textOf "accepted 1 1 10 1\nstep 63\nend 0 0\nend 1 0\nend 2 0\nend 3 0\nend 4 0\nend 5 0\nend 6 0\nend 7 0\nend 8 0\nend 9 0\nend 10 0\nend 11 0\nend 12 0\nend 13 0\nend 14 0\nend 15 31\n"))
+    ∷ []
+
+-- two outcomes are the same
+abbrev pub sameOutcome : Outcome (List ℕ) → Outcome (List ℕ) → Bool
+sameOutcome (given xs) (given ys) = sameBytes xs ys
+sameOutcome (given xs) (refused k i s) = false
+sameOutcome (refused k i s) (given ys) = false
+sameOutcome (refused k i s) (refused l j t) = eqb k l && eqb i j && eqb s t
+
+-- the row comes out as the table says
+abbrev pub comesOut : Worked → Bool
+comesOut r = sameOutcome (r .found) (r .due)

@@ -1,0 +1,17 @@
+"""The answer of a verb about one execution: its lines, or a refusal by 1 to 12 in words."""
+from . import calls, inputs, manners, words
+from .faults import shown
+
+
+def answer(given, lines):
+    """Prints `lines(system, execution)`, or the refusal that the desk gives instead; the exit status."""
+    try:
+        system, execution = inputs.read_both(given.system, given.execution)
+        try:
+            told, status = "".join(lines(system, execution)), manners.DONE
+        except calls.Refusal as refusal:
+            told, status = words.verdict(system, execution, refusal), manners.REFUSED
+    except inputs.NoSheet as fault:
+        told, status = words.told(fault.number, f"{shown(fault.path, 200)}: {fault.sentence}"), manners.REFUSED
+    manners.say(told)
+    return status

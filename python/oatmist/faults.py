@@ -1,0 +1,50 @@
+"""What can go wrong in somebody's text, file or call, told in words.
+
+`Fault` is the one exception for it: what is wrong and what to write instead, with the file and the line where they are known.
+"""
+import unicodedata
+
+SHOWN = 60  # characters of somebody's text that a message repeats
+WHOLE = 1200  # characters of a message: it fits on a screen
+
+
+class Fault(Exception):
+    """What is wrong, in which file ('' for none) and in which line (0 for none); with the exit status that it leads to."""
+
+    def __init__(self, message, line=0, path="", status=2):
+        super().__init__(message)
+        self.message, self.line, self.path, self.status = message, line, path, status
+
+    def __str__(self):
+        where = shown(self.path, 200)
+        if self.line:
+            where += f"{':' if where else 'line '}{self.line}"
+        return cut(f"{where}: {self.message}" if where else self.message, WHOLE)
+
+
+def cut(text, most=SHOWN):
+    """The text, or its front where it is too long."""
+    return text if len(text) <= most else text[:most - 2] + ".."
+
+
+def printable(letter):
+    """A character as it is, or as its number where it would change the terminal or cannot be seen."""
+    if letter == " " or unicodedata.category(letter)[0] not in "CZ":
+        return letter
+    return f"<U+{ord(letter):04X}>"
+
+
+def shown(text, most=SHOWN):
+    """Somebody's text for a message: cut, and without control characters."""
+    return "".join(map(printable, cut(text, most)))
+
+
+def quoted(text):
+    """The same between quotes."""
+    return f"'{shown(text)}'"
+
+
+def listed(names, last="and"):
+    """Names for a sentence: a, b and c."""
+    names = list(names)
+    return f" {last} ".join(filter(None, [", ".join(names[:-1]), *names[-1:]]))

@@ -1,0 +1,74 @@
+"""The steps of a text: {produce, start} {deliver}."""
+import re
+
+from .faults import Fault, cut, quoted
+from .letters import as_typed, name_fault, odd_letter
+from .model import bits
+
+STEP = re.compile(r"\s*(?:\{([^{}]*)\}|raw(?:\s+([^\s{}]+))?)\s*")
+SIGNS = re.compile(r"[\s,;:+|&/，、–—-]+")  # what stands between actions where a comma should
+BRACES = ("{", "}")
+MOST = 131072  # steps that are read; the desk refuses far fewer
+RAW = re.compile(r"0[xX]([0-9a-fA-F]{1,16})")
+
+
+class Steps:
+    """Takes steps. Whether they are too many, or empty, is for the desk to say."""
+
+    def __init__(self, actions):
+        self.numbers = {name: number for number, name in enumerate(actions)}
+        self.steps = []
+
+    def take(self, text):
+        """All steps of a line."""
+        place = 0
+        while place < len(text):
+            found = STEP.match(text, place)
+            if not found:
+                stray = text[place] + text[place + 1:].partition("{")[0]
+                raise Fault(f"no step: {quoted(text[place:])}; {odd_letter(stray, BRACES) or self.hint(text[place:])}")
+            inner, raw = found.groups()
+            self.add(self.take_raw(raw) if inner is None else self.take_set(inner))
+            place = found.end()
+
+    def hint(self, text):
+        """How to write what stands where a step should."""
+        if text.startswith("{") and "}" not in text:
+            return "close the step with } in the same line"
+        if text.startswith((",", ";")):
+            return f"write no {text[0]} between steps"
+        first = SIGNS.split(text.strip())[0]
+        return f"write {{{cut(first)}}}" if first in self.numbers else "write the steps alone, each as {a, b}"
+
+    def add(self, step):
+        if len(self.steps) == MOST:
+            raise Fault(f"more than {MOST:,} steps: shorten the execution")
+        self.steps.append(step)
+
+    def take_raw(self, word):
+        found = RAW.fullmatch(word or "")
+        if not found:
+            raise Fault(f"raw {quoted(word or '')}: write 0x and 1 to 16 hexadecimal digits")
+        return bits(int(found[1], 16))
+
+    def take_set(self, inner):
+        if not inner.strip():
+            return []  # for the desk to refuse
+        step = [self.numbers.get(word.strip(), word) for word in inner.split(",")]
+        for word in step:
+            if not isinstance(word, int):
+                self.no_action(word.strip())
+        if len(set(step)) < len(step):
+            twice = next(word for word in step if step.count(word) > 1)
+            raise Fault(f"action {quoted(list(self.numbers)[twice])} is twice in one step: write it once, or a step for each")
+        return step
+
+    def no_action(self, word):
+        """Tells why a word in a step is no action."""
+        parts = SIGNS.split(word)
+        if len(parts) > 1 and all(part in self.numbers for part in parts):
+            raise Fault(f"no comma in {quoted(word)}: write {{{', '.join(parts)}}}")
+        for bare in as_typed(word):
+            if bare in self.numbers:
+                raise Fault(f"action {quoted(word)} is in no alphabet: write {bare}")
+        raise Fault(name_fault(bare) or f"action {quoted(word)} is in no alphabet: the system has {cut(' '.join(self.numbers), 300)}")

@@ -1,0 +1,29 @@
+"""Makes the sheet of a system and an execution. They stand in one
+file or in two:
+
+  oatmist make pair.txt -o pair.sheet
+  oatmist make SYSTEM EXECUTION -o SHEET
+
+It does not ask whether the execution can be carried out: that is for 'mark'
+to say.
+"""
+import sys
+
+from .. import inputs, manners
+from ..faults import Fault
+from ..sheet import encode
+
+SUMMARY = "a sheet from a system and an execution"
+
+
+def arguments(parser):
+    inputs.add_both(parser)
+    parser.add_argument("-o", metavar="FILE", dest="output", help="where the sheet goes; else to standard output")
+
+
+def run(given):
+    if given.output is None and sys.stdout is not None and sys.stdout.isatty():
+        raise Fault("a sheet is no text for a terminal: give -o FILE")
+    data = encode(*inputs.read_both(given.system, given.execution))
+    manners.deliver(given.output, data)
+    return manners.DONE

@@ -1,0 +1,67 @@
+"""What the README and docs/TEXT.md show is so."""
+import os
+import re
+
+import common
+from oatmist import cli, files, text
+from oatmist.indices import expanded, lines_of
+from oatmist.model import DESK
+from oatmist.reader import WORDS
+
+
+def page(name):
+    with open(os.path.join(common.TOP, name), encoding="utf-8") as file:
+        return file.read()
+
+
+class TextPage(common.Case):
+    """docs/TEXT.md"""
+
+    def test_blocks(self):
+        first, second = re.findall(r"```\n(.*?)```", page("docs/TEXT.md"), re.S)
+        system, execution = text.read(first)
+        self.assertEqual((system.actions, execution.steps), (["produce", "start", "deliver", "reset"], [[0, 1], [2]]))
+        self.assertEqual(len(text.read(second)[0].components), 10)
+        self.assertLessEqual(second.count("\n"), 13)
+
+    def test_table(self):
+        rows = re.findall(r"^\| `([^`]* for [^`]*)` \| (?:`([^`]*)`|(.*)) \|$", page("docs/TEXT.md"), re.M)
+        self.assertEqual(len(rows), 5)
+        for written, due, told in rows:
+            stands = [line.text for line in expanded(lines_of(written))]
+            if due:
+                word = due.split()[0]
+                self.assertEqual(" ".join([word, *(name for line in stands for name in line.split()[1:])]), due)
+            else:
+                self.assertEqual(len(stands), {"three transitions": 3, "ten steps": 10}.get(told, 10), written)
+
+    def test_words(self):
+        found = re.search(r"none of the words `([^`]*)`", page("docs/TEXT.md"))
+        self.assertEqual(found[1].split(), list(WORDS))
+
+    def test_limits(self):
+        said = page("docs/TEXT.md")
+        for count in (*DESK, files.LONGEST):
+            self.assertRegex(said, rf"\b{count:,}\b")
+
+
+class Readme(common.Case):
+    """The first use."""
+
+    def test_commands(self):
+        os.chdir(common.TOP)
+        commands = re.findall(r"^    \./oatmist (\w+) (.*)$", page("README.md"), re.M)
+        self.assertEqual([verb for verb, _ in commands], ["mark", "mark", "class"])
+        answers = [self.call(verb, *rest.split()) for verb, rest in commands]
+        self.assertEqual(answers[0].status, 0)
+        self.assertIn("".join(f"    {line}\n" for line in answers[1].out.splitlines()), page("README.md"))
+        self.assertIn("model", answers[2].out)
+
+    def test_what_the_command_needs(self):
+        needs = page("README.md").partition("## What you need")[2].partition("\n##")[0]
+        line, = re.findall(r"^- For the command `./oatmist`.*$", needs, re.M)
+        for name in ("Python 3.8", "`python3`", "`cc`", "Graphviz"):
+            self.assertIn(name, line)
+
+    def test_verbs(self):
+        self.assertEqual(sorted(re.findall(r"^\| `(\w+) [A-Z][^`]*` \|", page("README.md"), re.M)), cli.names())
