@@ -159,8 +159,9 @@ def inside(path, folder):
 
 
 def make_folder(path):
-    """A folder, which may be there."""
+    """A folder, which may be there; the folder that it stands in must be."""
     try:
-        os.makedirs(path, exist_ok=True)
+        if not os.path.isdir(path):
+            os.mkdir(path)
     except OSError as error:
         raise Fault("this is no folder" if isinstance(error, FileExistsError) else explain(error), path=path)

@@ -101,13 +101,14 @@ class Output(Quiet):
         self.write("system.txt", "component sender from sender.aut\nsteps {a}")
         self.write("other.aut", component)
         for words in (("show", "system.txt", "--aut", "."), ("show", "system.txt", "-o", "sender.aut"), ("show", "sender.aut", "--aut", "."),
-                      ("make", "system.txt", "-o", "sender.aut"), ("picture", "system.txt", "-o", "./sender.aut"),
+                      ("make", "system.txt", "-o", "sender.aut"),
                       ("show", "other.aut", "--names", "system.txt", "--aut", "."), ("make", "other.aut", "system.txt", "-o", "sender.aut")):
             self.told(self.call(*words), 2, "sender.aut: this file is read: give another one to write")
-        os.symlink("sender.aut", "drawn.dot")
-        self.told(self.call("graph", "system.txt", "-o", "drawn.dot"), 2, "drawn.dot: this file is read")
+        for verb, drawn in (("graph", "drawn.dot"), ("picture", "drawn.svg")):
+            os.symlink("sender.aut", drawn)
+            self.told(self.call(verb, "system.txt", "-o", drawn), 2, drawn + ": this file is read")
         self.assertEqual(self.read("sender.aut"), component + b"\n")
-        self.left("drawn.dot", "other.aut", "sender.aut", "system.txt")
+        self.left("drawn.dot", "drawn.svg", "other.aut", "sender.aut", "system.txt")
 
     def test_a_file_that_is_not_to_be_written(self):
         self.write("made", "before")

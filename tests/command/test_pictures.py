@@ -195,8 +195,10 @@ class Pictures(common.Case):
             self.assertEqual([{event.step for event in events} for _, events in parts(drawing)], [given, restated])
             self.assertEqual([title.text for title in drawing.iter(SVG + "text") if title.get("class") == "title"], told)
             self.assertEqual({int(number.text) - 1 for number in drawing.iter(SVG + "text") if number.get("class") == "number"}, given | restated)
-        for chosen in (("--from", "3", "--to", "2"), ("--from", "0"), ("--to", "x")):
-            self.assertEqual(self.call("picture", PAIR, *chosen).status, 2)
+        for chosen in (("--from", "3", "--to", "2"), ("--from", "0"), ("--to", "x"), ("--from", "6")):
+            self.assertEqual(self.call("picture", PAIR, "steps.txt", *chosen).status, 2)
+        self.write("none.txt", "steps")
+        self.assertEqual(self.call("picture", PAIR, "none.txt", "--from", "1", "-o", "drawn.svg").status, 0)
         self.assertIn("32,767", self.call("picture", "--help").out)
 
     def test_markup_in_names_and_files(self):
@@ -214,8 +216,11 @@ class Pictures(common.Case):
 
     def test_what_cannot_be_done(self):
         before = self.write("system.txt", "component P")
+        with open(PAIR, "rb") as file:
+            self.write("pair.svg", file.read())
         for words, told in (((PAIR, "nowhere"), "nowhere: there is no such file\n"), ((before,), "has no state"), ((), "SYSTEM"),
-                            ((PAIR, "-o", "nowhere/x.svg"), "nowhere/x.svg"), ((PAIR, "-o", PAIR), "this file is read")):
+                            ((PAIR, "-o", "nowhere/x.svg"), "nowhere/x.svg"), (("pair.svg", "-o", "pair.svg"), "this file is read"),
+                            ((PAIR, "-o", "drawn.png"), "name a file that ends in .svg")):
             answer = self.call("picture", *words)
             self.assertEqual((answer.status, answer.out), (2, ""), words)
             self.assertIn(told, answer.told)

@@ -286,6 +286,7 @@ class Aldebaran(common.Case):
 
     def test_out_and_in(self):
         self.assertEqual(self.call("show", PAIR, "--aut", "out"), (0, "", ""))
+        self.assertEqual(self.call("show", PAIR, "--aut", "nowhere/out").status, 2)
         self.assertEqual(self.read("out/Consumer.aut"), b'des (0, 3, 3)\n(0, "start", 1)\n(1, i, 2)\n(2, "deliver", 0)\n')
         system = self.write("system.txt", "actions produce start deliver\ncomponent Producer from out/Producer.aut\ncomponent Consumer from out/Consumer.aut\n")
         self.assertEqual(self.call("make", system, "-o", "made").status, 0)

@@ -3,9 +3,9 @@ lane for each component, a column for each step, a box for each action over the
 lanes of its components. Where these are not neighbours, the box is narrow on
 the lanes between them, and their lines pass through it.
 
-Of an execution that the desk refuses the picture has the steps as given, with
-a dashed frame around the step that is wrong; the refusal is told on standard
-error, and the exit status is 1.
+Of an execution that the desk refuses by 9 to 12 the picture has the steps as
+given, with a dashed frame around the step that is wrong; the refusal is told on
+standard error, and the exit status is 1. Any other refusal gives no picture.
 
 Many programs show no picture that is higher than 32,767 units: of a long
 execution draw some steps, by --from and --to.
@@ -13,7 +13,7 @@ execution draw some steps, by --from and --to.
 import argparse
 import os
 
-from .. import calls, inputs, manners, words
+from .. import calls, files, inputs, manners, words
 from ..faults import Fault, shown
 from ..pictures import Part, draw
 from ..sheet import encode, read_execution
@@ -71,7 +71,11 @@ def parts(system, execution, chosen):
 def run(given):
     if given.last is not None and given.last < given.first:
         raise Fault(f"there is no step from {given.first} to {given.last}")
+    if given.output and not given.output.endswith(".svg") and not files.special(given.output):
+        raise Fault("name a file that ends in .svg", path=given.output)
     system, execution = inputs.read_both(given.system, given.execution)
+    if given.first > max(1, len(execution.steps)):
+        raise Fault(f"there is no step {given.first:,}: the execution has {len(execution.steps):,}")
     drawn, refusal = parts(system, execution, slice(given.first - 1, given.last))
     title = ", ".join(shown(os.path.basename(path)) for path in (given.system, given.execution) if path)
     picture = draw(title, [component.name for component in system.components], drawn)
