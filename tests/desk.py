@@ -1,4 +1,4 @@
-"""The proved library from Python: the calls that include/oatmist.h declares, each answer in words.
+"""The proved library from Python: the calls that include/oatmist.h declares, each answer in words (S6, O4, O7, A2).
 
 `build` alone knows the library's name; `ask` alone knows by which numbers a call answers. The leaner answer is no number.
 """

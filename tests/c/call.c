@@ -1,5 +1,5 @@
 /* The calls by the header, built as C and as C++: accepted sheets, refused ones and pairs, each with arrays lent for the answer that are
-   empty, null, too short, exact and longer. Its last line is 'N passed, 0 failed'. */
+   empty, null, too short, exact and longer (C1, D1; what each part is about stands above it). Its last line is 'N passed, 0 failed'. */
 #include "oatmist.h"
 #include <stdio.h>
 #include <string.h>
@@ -17,7 +17,7 @@ static void expect(int holds, const char *call, const char *what) {
 
 /* ---- sheets ---- */
 
-/* One component with one state and action 0, no transitions, no steps. */
+/* X4: one component with one state and action 0, no transitions, no steps. */
 static const uint8_t small[OATMIST_SHORTEST_SHEET] = {1, 0, 0, 0, 1, 0, 0, 0, 1, 0, 0, 0, 0, 0, 0, 0, 0, 0, 16, 0, 16, 0, 1, 1, 0x46, 0x53};
 
 /* A sheet as a call is given it. */
@@ -31,7 +31,7 @@ static const struct sheet smallest = {small, sizeof small}, nothing = {NULL, 0},
 #define PAIR_STEPS_AT 52
 #define PAIR_ROOM 128
 
-/* Pair of document 01 in the lent bytes: two components, three actions, and steps by their sets of actions. */
+/* X1: Pair of document 01 in the lent bytes: two components, three actions, and steps by their sets of actions. */
 static struct sheet pair(uint8_t *bytes, size_t count, const uint8_t *steps) {
     static const uint8_t tables[PAIR_STEPS_AT] = {
         2, 0, 0, 0, 1, 0, 0, 0, 5, 0, 0, 0, 0, 0, 0, 0, 3, 0, 0, 0, 1, 0, 0, 0, 6, 0, 0, 0, 0, 0, 0, 0,
@@ -82,8 +82,8 @@ static uint64_t make(enum call call, struct sheet one, struct sheet two, size_t 
     return 0;
 }
 
-/* A call with arrays of several lengths lent for its answer: what it must return, its values, and what stands at the front of the output
-   then, of which so many bytes are lent. All other entries must keep their values. */
+/* O5, C1: a call with arrays of several lengths lent for its answer: what it must return, its values, and what stands at the front of the
+   output then, of which so many bytes are lent. All other entries must keep their values. */
 static void judge(const char *what, enum call call, struct sheet one, struct sheet two, size_t out_room, uint64_t told,
                   const uint64_t *values, const void *front, size_t front_length) {
     const size_t count = calls[call].values, rooms[] = {0, 1, count, count + 1, ANSWER_ROOM};
@@ -116,7 +116,7 @@ static void gives(const char *what, enum call call, struct sheet sheet, const ui
 /* One value. */
 static void gives_one(const char *what, enum call call, struct sheet sheet, uint64_t value) { gives(what, call, sheet, &value); }
 
-/* A sheet that every call but the report refuses like this, whatever is lent, and of which the report is this text. */
+/* O4, O5, P2, R13: a sheet that every call but the report refuses like this, whatever is lent, and of which the report is this text. */
 static void refused(const char *what, struct sheet sheet, uint64_t told, const char *text) {
     const size_t length = strlen(text), rooms[] = {0, 1, 25, 100, OUT_ROOM};
     const uint64_t values[1] = {length};
@@ -131,9 +131,10 @@ static void refused(const char *what, struct sheet sheet, uint64_t told, const c
 
 /* ---- what is tried ---- */
 
-/* A refusal as it is returned. */
+/* O4, O7: a refusal as it is returned. */
 static uint64_t refusal(uint64_t number, uint64_t sheet, uint64_t step) { return number + 256 * sheet + 65536 * step; }
 
+/* O4, O7: the macros of the header. */
 static void taken_apart(void) {
     const uint64_t told = refusal(12, 1, 1023);
     expect(OATMIST_REFUSAL(told) == OATMIST_REFUSAL_NOT_ENABLED, "OATMIST_REFUSAL", "12 of sheet 1 at 1023");
@@ -142,6 +143,7 @@ static void taken_apart(void) {
     expect(OATMIST_REFUSAL(0) == 0 && OATMIST_SHEET(0) == 0 && OATMIST_STEP(0) == 0, "0", "no refusal");
 }
 
+/* S6, E5, N7, A4, A5, N8, N9, P1 to P5, R13: every call on one sheet. */
 static void accepted(void) {
     static const char text[] = "accepted 4 3 13 0\nstep 0 1\nstep 2\nstep 0\nend 0 1\nend 1 0\n";
     static const char small_text[] = "accepted 0 0 0 1\nend 0 0\n";
@@ -173,6 +175,7 @@ static void accepted(void) {
         judge("Pair", REPORT, sheet, nothing, room, room < text_length ? OATMIST_REFUSAL_OUTPUT : 0, &text_length, text, sizeof text - 1);
 }
 
+/* R1, R2, R10 to R12: refused sheets. */
 static void turned_down(void) {
     static uint8_t zeros[OATMIST_LONGEST_SHEET + 1];
     const struct sheet too_long = {zeros, sizeof zeros}, unmarked = {zeros, OATMIST_LONGEST_SHEET};
@@ -187,7 +190,7 @@ static void turned_down(void) {
     refused("not enabled", pair(bytes, 2, again), refusal(OATMIST_REFUSAL_NOT_ENABLED, 0, 1), "refused 12 1\n");
 }
 
-/* The leaner answer: the part that is due, or an empty one for a refused pair, whatever part stood there before. */
+/* A2: the leaner answer: the part that is due, or an empty one for a refused pair, whatever part stood there before. */
 static void hands_back(const char *what, struct sheet one, struct sheet two, const uint8_t *bytes, size_t length) {
     struct oatmist_part part = {small, sizeof small}, null = {NULL, 0};
     const struct oatmist_part back = oatmist_leaner_part(one.bytes, one.length, two.bytes, two.length);
@@ -198,20 +201,21 @@ static void hands_back(const char *what, struct sheet one, struct sheet two, con
     expect(back.length == length && (bytes == NULL || back.bytes == bytes), "leaner by value", what);
 }
 
-/* Two sheets: whether they do the same work, and which is leaner. */
+/* A1 to A3: two sheets: whether they do the same work, and which is leaner. */
 static void weighed(const char *what, struct sheet one, struct sheet two, uint64_t same, uint64_t winner, size_t section) {
     judge(what, SAME_WORK, one, two, 0, 0, &same, NULL, 0);
     judge(what, WINNER, one, two, 0, 0, &winner, NULL, 0);
     hands_back(what, one, two, (winner ? two : one).bytes + PAIR_STEPS_AT, section);
 }
 
-/* Two sheets that are refused. */
+/* O6, O7, A2: two sheets that are refused. */
 static void pair_refused(const char *what, struct sheet one, struct sheet two, uint64_t told) {
     judge(what, SAME_WORK, one, two, 0, told, NULL, NULL, 0);
     judge(what, WINNER, one, two, 0, told, NULL, NULL, 0);
     hands_back(what, one, two, NULL, 0);
 }
 
+/* A1 to A3, O6, O7, R14: pairs of sheets. */
 static void pairs(void) {
     const uint8_t steps[3] = {1, 2, 4}, turned[2] = {2, 1}, faulty[2] = {1, 1};
     uint8_t b1[PAIR_ROOM], b2[PAIR_ROOM], b3[PAIR_ROOM], b4[PAIR_ROOM], b5[PAIR_ROOM];

@@ -1,6 +1,6 @@
-/* What oatmist.h says of the stack and of threads. Each call is run in a thread whose stack was painted before, and what it painted over
-   must keep within what is said there; then all calls are made side by side in several threads, and must answer as they do alone. With an
-   argument the bytes of stack are printed too. The last line is 'N passed, 0 failed'. */
+/* D1, wherever a call is made: what oatmist.h says of the stack and of threads. Each call is run in a thread whose stack was painted
+   before, and what it painted over must keep within what is said there; then all calls are made side by side in several threads, and must
+   answer as they do alone. With an argument the bytes of stack are printed too. The last line is 'N passed, 0 failed'. */
 #define _DEFAULT_SOURCE
 #include "oatmist.h"
 #include <pthread.h>
@@ -10,7 +10,7 @@
 
 static int passed, failed;
 
-/* ---- sheets ---- */
+/* ---- sheets: X4, the smallest, and L1 to L7 at their most ---- */
 
 static uint8_t smallest[OATMIST_SHORTEST_SHEET], largest[OATMIST_LONGEST_SHEET], internal[OATMIST_LONGEST_SHEET];
 
@@ -103,7 +103,7 @@ static const struct {
              {"restate", restate, 16}, {"report", report, 33},    {"same_work", same_work, 24}, {"winner", winner, 16}, {"leaner", leaner, 16}};
 #define CALLS (sizeof calls / sizeof calls[0])
 
-/* ---- the stack ---- */
+/* ---- the stack: D1, every call ends ---- */
 
 #define ROOM (1024 * 1024) /* the stack of the thread */
 #define PAINT 0xa5
@@ -160,7 +160,7 @@ static void stacks(int printed) {
         }
 }
 
-/* ---- side by side ---- */
+/* ---- side by side: D1, the one answer that is due ---- */
 
 #define THREADS 4
 #define TURNS 100

@@ -1,4 +1,4 @@
-"""Case files, read: README.md has the notation."""
+"""Case files, read: README.md has the notation. Each case shows a rule; all of them are what C4 asks for."""
 import itertools
 import re
 

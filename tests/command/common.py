@@ -1,4 +1,5 @@
-"""What the tests of the command share: the command called in this process or as a process, a folder to write in, random systems."""
+"""What the tests of the command share: the command called in this process or as a process, a folder to write in, random
+systems (Q1). The command is an addition: its answers are those of the calls (G1)."""
 import contextlib
 import io
 import os

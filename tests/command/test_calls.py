@@ -1,4 +1,4 @@
-"""The calls: against the header, against the example sheets, and each refusal."""
+"""The calls: against the header, against the example sheets, and each refusal (C1, D1)."""
 import array
 import concurrent.futures
 import glob
@@ -18,7 +18,7 @@ def load(name):
 
 
 class Header(common.Case):
-    """calls.py says what include/oatmist.h says."""
+    """O4, O7, L1, L7, R1 to R14: calls.py says what include/oatmist.h says."""
 
     def setUp(self):
         super().setUp()
@@ -54,7 +54,7 @@ class Header(common.Case):
 
 
 class Answers(common.Case):
-    """Each call on worked sheets."""
+    """S6, E5, N7 to N9, A1 to A5, P1 to P5, O4 to O7: each call on worked sheets."""
 
     def test_pair(self):
         data = load("pair.sheet")
@@ -132,7 +132,7 @@ class Answers(common.Case):
 
 
 class Library(common.Case):
-    """How the library is found."""
+    """G1: how the library is found."""
 
     def named(self, path):
         before = os.environ.get("OATMIST_LIBRARY")

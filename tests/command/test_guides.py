@@ -1,4 +1,4 @@
-"""The pages for lecturers and authors: every command that they show runs and prints what stands below it."""
+"""The pages for lecturers and authors: every command that they show runs and prints what stands below it (G1)."""
 import os
 import re
 import subprocess

@@ -1,4 +1,5 @@
-"""Manners, tried with real files, pipes and devices: nobody sees a traceback, and nothing is written where something failed."""
+"""Manners, tried with real files, pipes and devices: nobody sees a traceback, and nothing is written where something failed.
+No rule speaks of the command; what it must not do is to give out a failure as an answer (O4, P2)."""
 import contextlib
 import os
 import pty
@@ -32,7 +33,7 @@ class Quiet(common.Case):
 
 
 class Output(Quiet):
-    """Output that fails."""
+    """Output that fails: it is no answer (O4)."""
 
     def test_full_device(self):
         for verb in ("mark", "next", "lint", "show", "make"):
@@ -133,7 +134,7 @@ class Output(Quiet):
 
 
 class Input(Quiet):
-    """Input that is not what it should be."""
+    """Input that is not what it should be: a sheet that the desk refuses (R1, R2), or no sheet at all."""
 
     def test_no_file(self):
         for verb in ("mark", "next", "lint", "show", "make"):

@@ -1,4 +1,4 @@
-"""What the README and docs/TEXT.md show is so."""
+"""What the README and docs/TEXT.md show is so (G1, L1 to L7)."""
 import os
 import re
 

@@ -1,4 +1,4 @@
-"""picture and graph: well-formed, and every event, state and transition in its place."""
+"""picture and graph: well-formed, and every event, state and transition in its place (N8, Q1)."""
 import os
 import re
 import shutil
@@ -63,7 +63,7 @@ def parts(drawing):
 
 
 class Pictures(common.Case):
-    """The picture verb, and what it draws."""
+    """N2, N8: the picture verb, and what it draws."""
 
     def drawn(self, system, *steps, faulty=None):
         """Some executions drawn, read back."""
@@ -227,7 +227,7 @@ class Pictures(common.Case):
 
 
 class Graphs(common.Case):
-    """The graph verb."""
+    """Q1, S3, S4: the graph verb."""
 
     def read_back(self, told, system):
         """The states, initial states and transitions of a text for Graphviz, by its own names."""

@@ -1,4 +1,4 @@
-"""The text: every fault with its line and what to write, the notation for many, names of any alphabet, round trips."""
+"""The text: every fault with its line and what to write, the notation for many, names of any alphabet, round trips (L1 to L7, S2 to S7)."""
 import glob
 import os
 import unicodedata
@@ -137,7 +137,7 @@ component Fork[i] for i in 0..4
 
 
 class Faults(common.Case):
-    """Each bad text is told with its line."""
+    """L1 to L7, R5 to R8: each bad text is told with its line."""
 
     def test_bad_texts(self):
         for line, message, bad in BAD:
@@ -174,7 +174,7 @@ class Faults(common.Case):
 
 
 class Executions(common.Case):
-    """An execution in a file of its own."""
+    """S5: an execution in a file of its own."""
 
     def setUp(self):
         super().setUp()
@@ -260,7 +260,7 @@ class Names(common.Case):
 
 
 class RoundTrips(common.Case):
-    """Text, sheet and memory say the same."""
+    """S1 to S7: text, sheet and memory say the same."""
 
     def test_random_systems(self):
         dice = common.dice(4653)

@@ -1,4 +1,5 @@
-"""The verbs make, show, mark, next and lint, as a person uses them; and components from .aut files and to them."""
+"""The verbs make, show, mark, next and lint, as a person uses them; and components from .aut files and to them (O4, E5,
+N8)."""
 import os
 import subprocess
 from unittest import mock
@@ -31,7 +32,7 @@ STEPS = """steps
 
 
 class Make(common.Case):
-    """make: one file or two."""
+    """S2 to S7: make: one file or two."""
 
     def setUp(self):
         super().setUp()
@@ -93,7 +94,7 @@ class Make(common.Case):
 
 
 class Show(common.Case):
-    """show: with names and without."""
+    """S2 to S7: show: with names and without."""
 
     def test_names(self):
         sheet = os.path.join(common.SHEETS, "pair.sheet")
@@ -122,7 +123,7 @@ class Show(common.Case):
 
 
 class Mark(common.Case):
-    """mark and next: answers in names."""
+    """O4, E3, E5, N8, A5: mark and next: answers in names."""
 
     def test_accepted(self):
         self.assertEqual(self.call("mark", PAIR), (0, """accepted: 4 steps, restated in 3
@@ -223,7 +224,7 @@ LINT = [  # what is told, and a line of the system that is replaced
 
 
 class Lint(common.Case):
-    """lint: what is probably wrong, and nothing else."""
+    """Q1: lint: what is probably wrong, and nothing else."""
 
     def test_found(self):
         for due, old, new in LINT:
@@ -258,7 +259,7 @@ AUT = """des (0, 4, 3)
 
 
 class Aldebaran(common.Case):
-    """.aut files, in and out."""
+    """Q1: .aut files, in and out."""
 
     def test_in(self):
         self.write("consumer.aut", AUT)

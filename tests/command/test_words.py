@@ -1,4 +1,5 @@
-"""Refusals in words: each number against a worked case; and random bytes, where the words must never be missing."""
+"""Refusals in words: each number against a worked case; and random bytes, where the words must never be missing
+(R1 to R12, O4)."""
 import os
 
 import common
@@ -64,7 +65,7 @@ MEND = [  # the number, the words, the bytes
 
 
 class Sheets(common.Case):
-    """1 to 9: what to mend in the bytes."""
+    """R1 to R9: what to mend in the bytes."""
 
     def test_worked(self):
         self.assertEqual({number for number, *_ in MEND}, set(PLACES))
@@ -109,7 +110,7 @@ class Sheets(common.Case):
 
 
 class Steps(common.Case):
-    """9 to 12: the step, in names."""
+    """R9 to R12: the step, in names."""
 
     def setUp(self):
         super().setUp()

@@ -1,4 +1,4 @@
-//! The proved library against the second implementation, on random sheets: the verdict, the sizes,
+//! C4: the proved library against the second implementation, on random sheets: the verdict, the sizes,
 //! the end sets, the process check, the restated bytes, the figure, stuck and the printed text; and
 //! on random pairs: same work, which sheet is leaner, and the part that is handed back. Every entry
 //! of what was lent is compared too: a refused call must leave all of it as it came.
@@ -120,7 +120,7 @@ fn show(differing: &mut u64, kind: &str, given: &[&[u8]], differences: &[String]
 }
 
 // ---------------------------------------------------------------------------------------------
-// Lent memory
+// O5, N9: lent memory
 
 /// A vector of random entries of which a middle part is lent.
 struct Lent<T> {
@@ -181,7 +181,7 @@ fn lent_sheet(dice: &mut Dice, bytes: &[u8]) -> Lent<u8> {
 }
 
 // ---------------------------------------------------------------------------------------------
-// One sheet
+// O1 to O4, S6, E5, N7 to N9, A4, A5, P1 to P5, R13: one sheet
 
 /// What is due where an accepted sheet gets these values.
 fn due(
@@ -365,7 +365,7 @@ fn buffer_lengths(dice: &mut Dice, sheet: usize, exact: Option<usize>) -> Vec<us
 }
 
 // ---------------------------------------------------------------------------------------------
-// Two sheets
+// A1 to A3, O6, O7, R14: two sheets
 
 /// Every call on two sheets; the texts of what differs.
 fn compare_pair(tally: &mut Tally, dice: &mut Dice, first: &[u8], second: &[u8]) -> Vec<String> {
@@ -439,7 +439,7 @@ fn restated_by_library(sheet: &[u8]) -> Result<Vec<u8>, u64> {
 }
 
 // ---------------------------------------------------------------------------------------------
-// What was seen
+// What was seen: R1 to R14, L1 to L7 at both sides
 
 /// How many sheets and pairs of each class there were, in the order in which they are printed.
 struct Classes(Vec<(String, u64)>);

@@ -1,4 +1,4 @@
-//! The library's interface, answered by the second implementation: to test the comparison itself.
+//! The library's interface, answered by the second implementation: to test the comparison itself (C4).
 //! The environment variable OATMIST_BUG switches one bug on, and the comparison must then fail.
 
 #[allow(dead_code)]

@@ -1,4 +1,4 @@
-//! Counting what passed and what failed.
+//! Counting what passed and what failed, for the programs of C4.
 
 /// Failures of which the details are printed.
 const SHOWN: usize = 5;

@@ -1,4 +1,4 @@
--- Decimal numbers: read back, digits alone, no 0 in front, no other text; and how many places a number needs.
+-- P1: decimal numbers: read back, digits alone, no 0 in front, no other text; and how many places a number needs.
 -- Assumes nothing.
 use mathlib.Core.Path.{_≡_, refl, ap, ap₂, _∙_}
 use mathlib.Core.Logic.{_≢_, inl, inr}

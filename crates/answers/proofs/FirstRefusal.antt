@@ -1,4 +1,4 @@
--- The outcome of each call is a refusal exactly where one is due, so at most one is; and an answer that tells an outcome refuses alike.
+-- D1: the outcome of each call is a refusal exactly where one is due, so at most one is; and an answer that tells an outcome refuses alike.
 -- Assumes nothing.
 use mathlib.Core.Path.{_≡_, refl, sym, ap, _∙_}
 use mathlib.Core.List.{List, [], _∷_}
@@ -7,11 +7,11 @@ use native.Mathlib.Omega.{arith}
 use Rattle.sheet.specs.Verdict.{Verdict, verdict}
 use Rattle.answers.specs.declared.Sizes.{Sizes}
 use Rattle.answers.specs.declared.Answer.{Answer}
-use Rattle.answers.specs.Outcomes.{Outcome, given, refused, values, single, outcomeOf, after}
+use Rattle.answers.specs.Outcomes.{Outcome, given, refused, values, oneValue, outcomeOf, after}
 use Rattle.answers.specs.Restated.{restated}
 use Rattle.answers.specs.Restating.{restating}
 use Rattle.answers.specs.Report.{report, reporting}
-use Rattle.answers.specs.EndSets.{endArray, endsOutcome}
+use Rattle.answers.specs.Ends.{endArray, endsOutcome}
 use Rattle.answers.specs.ProcessCheck.{processCheck}
 use Rattle.answers.specs.Figure.{figure, figureOutcome}
 use Rattle.answers.specs.Stuck.{stuck, stuckOutcome}
@@ -84,11 +84,11 @@ values-same (refused k i s) = refl
 
 -- a number is told
 pub number-or : {A : Type 0} (number : A → ℕ) (P : Refusal) (o : Outcome A) → RefusesBy P o
-    → (r : Answer) → outcomeOf r ≡ values (λ (x : A). single (number x)) o → NumberOr P r
+    → (r : Answer) → outcomeOf r ≡ values (λ (x : A). oneValue (number x)) o → NumberOr P r
 number-or {A} number P o due r told =
-    record { refused-exactly = refused-as-due (λ (x : A). single (number x)) P o due r told; no-sizes = λ z e. go z o (sym (ap outcomeOf e) ∙ told) }
+    record { refused-exactly = refused-as-due (λ (x : A). oneValue (number x)) P o due r told; no-sizes = λ z e. go z o (sym (ap outcomeOf e) ∙ told) }
   where
-    go : (z : Sizes) (p : Outcome A) → outcomeOf (Answer.Accepted z) ≡ values (λ (x : A). single (number x)) p → ⊥
+    go : (z : Sizes) (p : Outcome A) → outcomeOf (Answer.Accepted z) ≡ values (λ (x : A). oneValue (number x)) p → ⊥
     go z (given x) e = let z : _≡_ {A = ℕ} 0 1 = cc in absurd (omega arith)
     go z (refused k i s) e = let z : _≡_ {A = ℕ} 0 1 = cc in absurd (omega arith)
 

@@ -28,7 +28,7 @@ use Rattle.sheet.specs.Verdict.{Verdict, verdict, Accepted}
 use Rattle.sheet.proofs.Limits.{limits-order}
 use Rattle.sheet.proofs.Verdicts.{verdict-first, verdict-only, accepted-exact}
 use Rattle.answers.specs.Outcomes.{given, after}
-use Rattle.answers.specs.EndSets.{endSet, endSets}
+use Rattle.answers.specs.Ends.{endSet, endSets}
 use Rattle.answers.specs.Restated.{restated}
 use Rattle.traces.specs.Offences.{firstOffence}
 use Rattle.answers.specs.ProcessCheck.{processCheck}
@@ -47,6 +47,7 @@ use Rattle.answers.proofs.Figure.{figure-rounds, figure-none}
 use Rattle.answers.proofs.Stuck.{stuck-exact}
 use Rattle.answers.proofs.Reports.{report-refused, report-accepted}
 
+-- D1, O1 to O7, R13, R14: which refusal is due
 pub refusal-laws : RefusalLaws
 refusal-laws =
     record {
@@ -62,6 +63,7 @@ refusal-laws =
       one-of-two = two-one;
     }
 
+-- D1, R13, O5, N9: restating into lent bytes
 pub output-laws : OutputLaws
 output-laws = record { long-enough = given-long; refused-untouched = refused-kept; written = given-written; behind-kept = given-behind }
 
@@ -99,6 +101,7 @@ component : (b : List ℕ) → Accepted b → (j : ℕ) → j < componentCount b
 unfolding tables tablesOf
 component b acc j l = component-lts (tables b) (accepted-order b acc) j l
 
+-- D2: accepted exactly when the steps are a step execution in limits; the end sets pick exactly the states reached
 pub execution-laws : ExecutionLaws
 execution-laws =
     record {
@@ -133,6 +136,7 @@ ends-kept b acc j l =
     rw (restated-same-tables b acc, restated-read-steps b acc)
     (sym (normal-ends (tables b) (accepted-order b acc) (steps b) (accepted-fine b acc) j l))
 
+-- D3, N8: the restated sheet of an accepted sheet
 pub restated-laws : RestatedLaws
 restated-laws =
     record {
@@ -169,6 +173,7 @@ process-yes b =
       λ h. answered (verdict b) offence none .1 (h .0, none-left .1 (process-iff b (h .0) .0 (h .1 .condition))),
     )
 
+-- N7, A1 to A5, P2 to P5: the other answers
 pub answer-laws : AnswerLaws
 unfolding processCheck
 answer-laws =

@@ -1,4 +1,4 @@
--- Leaner: which of two sheets wins, and the step section that is handed back.
+-- A3, A2: which of two sheets wins, and the step section that is handed back.
 -- Assumes nothing.
 use mathlib.Core.Path.{_≡_, refl}
 use mathlib.Core.Logic.{_↔_, Iff·trans}

@@ -1,4 +1,5 @@
--- A text handed over in lent bytes: 13 exactly where it does not fit, else its length, what is written and what is kept; and restating by these.
+-- R13, O5, N9: a text handed over in lent bytes: 13 exactly where it does not fit, else its length, what is written and what is kept; and
+-- restating by these.
 -- Assumes nothing.
 use mathlib.Core.Path.{_≡_, refl, sym, ap, _∙_}
 use mathlib.Core.Bool.{Bool, true, false}
@@ -11,7 +12,7 @@ use lib.Seq.{take-append-seam, drop-append-seam}
 use Rattle.sets.specs.Lists.{over}
 use Rattle.sets.proofs.Bools.{ltb-true, ltb-false}
 use Rattle.sheet.specs.Verdict.{Verdict, verdict, Accepted}
-use Rattle.answers.specs.Outcomes.{given, refused, values, single, after}
+use Rattle.answers.specs.Outcomes.{given, refused, values, oneValue, after}
 use Rattle.answers.specs.LentOutput.{unlessShort, lengthOr13}
 use Rattle.answers.specs.Restated.{restated}
 use Rattle.answers.specs.Restating.{restating, outputAfter}
@@ -37,11 +38,11 @@ module _ (text : List ℕ) where
       go false h = cc
 
   -- what was told as written lies within the output
-  pub fitting-within : (size k : ℕ) → given (single k) ≡ values single (lengthOr13 text size) → k ≤ size
+  pub fitting-within : (size k : ℕ) → given (oneValue k) ≡ values oneValue (lengthOr13 text size) → k ≤ size
   unfolding lengthOr13
   fitting-within size k e = go (ltb size (length text)) refl e
     where
-      go : (s : Bool) → ltb size (length text) ≡ s → given (single k) ≡ values single (unlessShort s (length text)) → k ≤ size
+      go : (s : Bool) → ltb size (length text) ≡ s → given (oneValue k) ≡ values oneValue (unlessShort s (length text)) → k ≤ size
       go true q h = let z : _≡_ {A = ℕ} 0 1 = cc in absurd (omega arith)
       go false q h = let n : k ≡ length text = cc in let l = ltb-false size (length text) .0 q in omega arith
 

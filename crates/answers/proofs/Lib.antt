@@ -13,6 +13,7 @@ pub mod Decimals
 pub mod Worked
 pub mod OutcomeLaws
 pub mod Reports
+pub mod ReadBack
 pub mod Starred
 pub mod FirstRefusal
 pub mod Laws

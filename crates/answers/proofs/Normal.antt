@@ -1,4 +1,4 @@
--- The normal form of an execution's steps, as sets of actions: it is without fault, has the same flat list up to swaps, the same end
+-- N8: the normal form of an execution's steps, as sets of actions: it is without fault, has the same flat list up to swaps, the same end
 -- sets, the fewest steps, and it is the only one that meets the process condition.
 -- Assumes nothing.
 use mathlib.Core.Path.{_≡_, refl, sym, ap, ap₂, _∙_, subst}

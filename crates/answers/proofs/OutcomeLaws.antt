@@ -7,10 +7,11 @@ use lib.ListN.{length}
 use Rattle.sets.specs.Lists.{over, upward, below}
 use Rattle.sets.proofs.Bools.{ltb-true, ltb-false}
 use Rattle.sets.proofs.Filling.{map-below-at}
+use Rattle.sheet.specs.Bounds.{mostComponents}
 use Rattle.sheet.specs.Layout.{componentCount}
 use Rattle.sheet.specs.Verdict.{verdict}
 use Rattle.answers.specs.Outcomes.{given, refused, after}
-use Rattle.answers.specs.EndSets.{endsOutcome}
+use Rattle.answers.specs.Ends.{endsOutcome}
 use Rattle.answers.specs.ProcessCheck.{processCheck}
 use Rattle.answers.specs.Figure.{figureOutcome}
 use Rattle.answers.specs.Stuck.{stuckOutcome}
@@ -23,6 +24,7 @@ use Rattle.answers.proofs.LentOutput.{fitting-short, fitting-long, outp
 of-verdict : {A : Type 0} (value : List ℕ → A) → OfAccepted (λ b. after (verdict b) (given (value b))) value
 of-verdict value = record { of-refused = λ b k i e. rw e; of-accepted = λ b acc. rw acc }
 
+-- S6, E5, N7, A4, A5: the refusal of a refused sheet; of an accepted one the sizes, end sets, process check, figure, stuck
 pub one-sheet : OneSheet
 unfolding endsOutcome processCheck figureOutcome stuckOutcome
 one-sheet =
@@ -36,10 +38,11 @@ one-sheet =
 
 -- ---- the end sets
 
-entry-count : (f : ℕ → ℕ) → length (map f (below 16)) ≡ 16
+entry-count : (f : ℕ → ℕ) → length (map f (below mostComponents)) ≡ mostComponents
 unfolding upward below
 entry-count f = refl
 
+-- E5: sixteen entries, the end set of each component and 0 beyond the last one
 pub end-entries : (b : List ℕ) → EndEntries b
 end-entries b =
     record {
@@ -66,6 +69,7 @@ output-over : (b out : List ℕ) (k : ℕ) → reporting b (length out) ≡ give
 unfolding reportOutput
 output-over b out k e = rw e
 
+-- R13, P1: the report in lent bytes
 pub reported : (b out : List ℕ) → ReportLaws b out
 reported b out =
     record {

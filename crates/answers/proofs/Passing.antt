@@ -1,4 +1,5 @@
--- An answer taken apart: one that is no accepted sheet is the refusal of its verdict, and is passed on as it is; an accepted one tells the sizes.
+-- F1: an answer taken apart: one that is no accepted sheet is the refusal of its verdict, and is passed on as it is; an accepted one tells
+-- the sizes.
 -- Assumes nothing.
 use mathlib.Core.Path.{_≡_, refl, ap, ap₂, _∙_}
 use mathlib.Core.Logic.{inl, inr}

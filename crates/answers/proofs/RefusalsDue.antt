@@ -1,4 +1,4 @@
--- A refusal is due exactly where the outcome is one: of the verdict and what comes later, and of a text in lent bytes.
+-- D1: a refusal is due exactly where the outcome is one: of the verdict and what comes later, and of a text in lent bytes.
 -- Assumes nothing.
 use mathlib.Core.Path.{_≡_, refl, sym, _∙_, subst}
 use mathlib.Core.Logic.{_↔_, inl, inr}
@@ -8,7 +8,7 @@ use Prim.Native.Nat.{ℕ}
 use native.Mathlib.Omega.{arith}
 use lib.Dec.{ltb}
 use lib.ListN.{length}
-use Rattle.sets.proofs.Bools.{clash, ltb-true}
+use Rattle.sets.proofs.Bools.{not-both, ltb-true}
 use Rattle.sheet.specs.Verdict.{Verdict, verdict, IsVerdict}
 use Rattle.sheet.proofs.Verdicts.{verdict-first, verdict-only}
 use Rattle.answers.specs.Outcomes.{Outcome, given, refused, onSheet, after}
@@ -70,4 +70,4 @@ short-due text room k i s = go (ltb room (length text)) refl
   where
     go : (t : Bool) → ltb room (length text) ≡ t → (unlessShort t (length text) ≡ refused k i s) ↔ TooShort room text k i s
     go true q = (λ e. (ltb-true room (length text) .0 q, (cc, cc, cc)), λ p. let n = p .1 .0 in let j = p .1 .1 in let w = p .1 .2 in cc)
-    go false q = (λ e. let z : _≡_ {A = ℕ} 0 1 = cc in absurd (omega arith), λ p. absurd (clash (ltb-true room (length text) .1 (p .0)) q))
+    go false q = (λ e. let z : _≡_ {A = ℕ} 0 1 = cc in absurd (omega arith), λ p. absurd (not-both (ltb-true room (length text) .1 (p .0)) q))

@@ -1,4 +1,4 @@
--- Related sheets have the same tables, and the restated sheet is related to its sheet and to no other normal form.
+-- N4, N5, D3: related sheets have the same tables, and the restated sheet is related to its sheet and to no other normal form.
 -- Assumes nothing.
 use mathlib.Core.Path.{_≡_, sym, ap, ap₂, _∙_}
 use mathlib.Core.Option.{none}

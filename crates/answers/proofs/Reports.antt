@@ -1,4 +1,4 @@
--- What the report of a refused and of an accepted sheet consists of.
+-- P2 to P5: what the report of a refused and of an accepted sheet consists of.
 -- Assumes nothing.
 use mathlib.Core.Path.{_≡_}
 use mathlib.Core.List.{List, [], _∷_, _++_}

@@ -1,4 +1,4 @@
--- The restated sheet of an accepted sheet, read back: the same tables, the steps of the normal form, and accepted again.
+-- N8: the restated sheet of an accepted sheet, read back: the same tables, the steps of the normal form, and accepted again.
 -- Assumes nothing.
 use mathlib.Core.Path.{_≡_, refl, ap, _∙_}
 use mathlib.Core.List.{List}
@@ -9,6 +9,7 @@ use lib.ListN.{length}
 use Rattle.systems.specs.Tables.{InOrder}
 use Rattle.systems.specs.Running.{start}
 use Rattle.systems.specs.Checking.{firstFault}
+use Rattle.sheet.specs.Bounds.{recordSize}
 use Rattle.sheet.specs.Numbers.{AreBytes}
 use Rattle.sheet.specs.Layout.{recordsAt, transitionsAt, stepsAt, componentCount, actionCount, closing, mark, front, tables, stepCount, steps}
 use Rattle.sheet.specs.Limits.{InLimits}
@@ -92,7 +93,7 @@ module _ (b : List ℕ) (acc : Accepted b) where
   unfolding restated
   records-restated = restated-reads .records-at
 
-  transitions-restated : transitionsAt (restated b) ≡ 16 * componentCount b
+  transitions-restated : transitionsAt (restated b) ≡ recordSize * componentCount b
   unfolding restated
   transitions-restated = restated-reads .transitions-at
 

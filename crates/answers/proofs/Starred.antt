@@ -1,4 +1,4 @@
--- The starred cases of document 01 and the text that is printed for its worked example, by one computed test.
+-- X2, C3: the starred cases of document 01 and the text that is printed for its worked example, by one computed test.
 -- Assumes nothing.
 use mathlib.Core.Path.{_≡_, refl}
 use mathlib.Core.Bool.{true, _&&_}
@@ -12,29 +12,29 @@ use Rattle.systems.specs.Running.{rounds, closure, start, enabled, fire}
 use Rattle.systems.specs.Checking.{notActions, notApart, notEnabled, stepFault}
 use Rattle.sheet.specs.Numbers.{field}
 use Rattle.sheet.specs.Layout.{recordsAt, transitionsAt, stepsAt, componentCount, actionCount, closing, front, statesOf, fillerOf, initialOf, alphabetOf, transitionBytes, tablesOf, tables, stepCount, steps}
-use Rattle.sheet.specs.Refusals.{sameBytes, lengthWrong, markWrong, countsWrong, offsetsWrong, recordWrong, recordsWrong, actionUnused, transitionWrong, transitionsWrong, orderWrong, tooManyActions}
+use Rattle.sheet.specs.Refusals.{sameNumbers, lengthWrong, markWrong, countsWrong, offsetsWrong, recordWrong, recordsWrong, actionUnused, transitionWrong, transitionsWrong, orderWrong, tooManyActions}
 use Rattle.sheet.specs.Verdict.{stepsVerdict, verdict}
 use Rattle.sheet.specs.Writing.{trailer, sheetOf}
-use Rattle.sheet.proofs.Limits.{same-bytes}
-use Rattle.answers.specs.EndSets.{endSet}
+use Rattle.sheet.proofs.Limits.{same-numbers}
+use Rattle.answers.specs.Ends.{endSet}
 use Rattle.answers.specs.Restated.{restatedSteps, restated}
 use Rattle.answers.specs.Figure.{figure}
 use Rattle.answers.specs.Stuck.{stuck}
 use Rattle.answers.specs.Report.{summaryLine, stepLines, endLines, report}
 use Rattle.answers.specs.Pair.{pairTables, pairSheet}
-use Rattle.answers.specs.Starred.{Case, starred, holds, workedSheet, printed}
+use Rattle.answers.specs.Starred.{Trial, starred, holds, workedSheet, printed}
 
-all-come-out : (allOf holds starred && sameBytes (report workedSheet) printed) ≡ true
+all-come-out : (allOf holds starred && sameNumbers (report workedSheet) printed) ≡ true
 unfolding upward below members membersFrom shares dependent rounds closure start enabled fire notActions notApart notEnabled stepFault field recordsAt transitionsAt stepsAt componentCount actionCount closing front statesOf fillerOf initialOf alphabetOf transitionBytes tablesOf tables stepCount steps lengthWrong markWrong countsWrong offsetsWrong recordWrong recordsWrong actionUnused transitionWrong transitionsWrong orderWrong tooManyActions stepsVerdict verdict trailer sheetOf endSet restatedSteps restated pairTables pairSheet figure stuck summaryLine stepLines endLines report
 all-come-out = refl
 
-both : (allOf holds starred ≡ true) × (sameBytes (report workedSheet) printed ≡ true)
-both = and-true (allOf holds starred) (sameBytes (report workedSheet) printed) .0 all-come-out
+both : (allOf holds starred ≡ true) × (sameNumbers (report workedSheet) printed ≡ true)
+both = and-true (allOf holds starred) (sameNumbers (report workedSheet) printed) .0 all-come-out
 
--- each case of the table comes out as the table says
-pub starred-hold : (c : Case) → List·Memᴰ c starred → holds c ≡ true
+-- X2, C3: each trial of the table comes out as the table says
+pub starred-hold : (c : Trial) → List·Memᴰ c starred → holds c ≡ true
 starred-hold c m = allOf-elim holds starred (both .0) c m
 
--- the text for the worked example
+-- X1, P1, P3 to P5: the text for the worked example
 pub pair-report : report workedSheet ≡ printed
-pair-report = same-bytes (report workedSheet) printed .0 (both .1)
+pair-report = same-numbers (report workedSheet) printed .0 (both .1)

@@ -10,7 +10,7 @@ use Rattle.sets.proofs.Bools.{not-true}
 use Rattle.sets.proofs.Lists.{anyOf-false, none-false, mem-below}
 use Rattle.systems.specs.Running.{enabled}
 use Rattle.sheet.specs.Layout.{actionCount, tables}
-use Rattle.answers.specs.EndSets.{endSet}
+use Rattle.answers.specs.Ends.{endSet}
 use Rattle.answers.specs.Stuck.{stuck}
 
 pub stuck-exact : (b : List ℕ) → (stuck b ≡ true) ↔ ((a : ℕ) → a < actionCount b → enabled (tables b) (endSet b) a ≡ false)

@@ -1,4 +1,4 @@
--- An answer and the outcome that it tells fix each other: the number given, or the refusal.
+-- F10: an answer and the outcome that it tells fix each other: the number given, or the refusal.
 -- Assumes nothing.
 use mathlib.Core.Path.{_≡_, refl, sym, ap, _∙_}
 use mathlib.Core.Logic.{_↔_}
@@ -9,9 +9,9 @@ use Prim.Native.Nat.{ℕ}
 use native.Mathlib.Omega.{arith}
 use Rattle.traces.specs.Offences.{offending}
 use Rattle.answers.specs.declared.Answer.{Answer}
-use Rattle.answers.specs.Outcomes.{Outcome, given, refused, values, single, bit, outcomeOf}
+use Rattle.answers.specs.Outcomes.{Outcome, given, refused, values, oneValue, bit, outcomeOf}
 
-pub is-given : (r : Answer) (x : ℕ) → outcomeOf r ≡ given (single x) → r ≡ Answer.Given x
+pub is-given : (r : Answer) (x : ℕ) → outcomeOf r ≡ given (oneValue x) → r ≡ Answer.Given x
 is-given (Answer.Accepted z) x e = let z : _≡_ {A = ℕ} 0 1 = cc in absurd (omega arith)
 is-given (Answer.Given y) x e = let q : y ≡ x = cc in ap Answer.Given q
 is-given (Answer.Refused k i s) x e = let z : _≡_ {A = ℕ} 0 1 = cc in absurd (omega arith)
@@ -35,19 +35,19 @@ module _ {A : Type 0} (f : A → List ℕ) where
 
 module _ {A : Type 0} (number : A → ℕ) (only : (x y : A) → number x ≡ number y → x ≡ y) where
   abbrev numbered : Outcome A → Outcome (List ℕ)
-  numbered o = values (λ (x : A). single (number x)) o
+  numbered o = values (λ (x : A). oneValue (number x)) o
 
-  given-only : (o : Outcome A) (x : A) → given (single (number x)) ≡ numbered o → o ≡ given x
+  given-only : (o : Outcome A) (x : A) → given (oneValue (number x)) ≡ numbered o → o ≡ given x
   given-only (given y) x e = let q : number y ≡ number x = cc in ap given (only y x q)
   given-only (refused k i s) x e = let z : _≡_ {A = ℕ} 0 1 = cc in absurd (omega arith)
 
   given-exactly : (r : Answer) (o : Outcome A) → outcomeOf r ≡ numbered o → (x : A) → (r ≡ Answer.Given (number x)) ↔ (o ≡ given x)
   given-exactly r o t x = (λ e. given-only o x (sym (ap outcomeOf e) ∙ t), λ e. is-given r (number x) (t ∙ ap numbered e))
 
-pub number-only : (o : Outcome ℕ) (x : ℕ) → given (single x) ≡ values single o → o ≡ given x
+pub number-only : (o : Outcome ℕ) (x : ℕ) → given (oneValue x) ≡ values oneValue o → o ≡ given x
 number-only o x e = given-only (λ y. y) (λ x y q. q) o x e
 
-pub number-exactly : (r : Answer) (o : Outcome ℕ) → outcomeOf r ≡ values single o → (x : ℕ) → (r ≡ Answer.Given x) ↔ (o ≡ given x)
+pub number-exactly : (r : Answer) (o : Outcome ℕ) → outcomeOf r ≡ values oneValue o → (x : ℕ) → (r ≡ Answer.Given x) ↔ (o ≡ given x)
 number-exactly r o t x = given-exactly (λ y. y) (λ x y q. q) r o t x
 
 bit-only : (x y : Bool) → bit x ≡ bit y → x ≡ y
@@ -56,7 +56,7 @@ bit-only true false e = absurd (omega arith)
 bit-only false true e = absurd (omega arith)
 bit-only false false e = refl
 
-pub bit-exactly : (r : Answer) (o : Outcome Bool) → outcomeOf r ≡ values (λ t. single (bit t)) o → (x : Bool)
+pub bit-exactly : (r : Answer) (o : Outcome Bool) → outcomeOf r ≡ values (λ t. oneValue (bit t)) o → (x : Bool)
     → (r ≡ Answer.Given (bit x)) ↔ (o ≡ given x)
 bit-exactly r o t x = given-exactly bit bit-only r o t x
 
@@ -66,6 +66,6 @@ offending-only none (some j) e = absurd (omega arith)
 offending-only (some i) none e = absurd (omega arith)
 offending-only (some i) (some j) e = let same : i ≡ j = omega arith in ap some same
 
-pub offence-exactly : (r : Answer) (o : Outcome (Option ℕ)) → outcomeOf r ≡ values (λ x. single (offending x)) o → (x : Option ℕ)
+pub offence-exactly : (r : Answer) (o : Outcome (Option ℕ)) → outcomeOf r ≡ values (λ x. oneValue (offending x)) o → (x : Option ℕ)
     → (r ≡ Answer.Given (offending x)) ↔ (o ≡ given x)
 offence-exactly r o t x = given-exactly offending offending-only r o t x

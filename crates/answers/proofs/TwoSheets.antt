@@ -1,4 +1,4 @@
--- Two sheets given together are refused in the printed order, and same work answers yes exactly for related sheets.
+-- O6, O7: two sheets given together are refused in the printed order. A1: same work answers yes exactly for related sheets.
 -- Assumes nothing.
 use mathlib.Core.Path.{_≡_, refl, ap}
 use mathlib.Core.Logic.{_↔_, inl, inr}
@@ -7,11 +7,11 @@ use mathlib.Core.List.{List}
 use Prim.Native.Nat.{ℕ}
 use native.Mathlib.Omega.{arith}
 use lib.Dec.{eqb}
-use Rattle.sets.proofs.Bools.{clash, true-or-false, or-false, not-false, eqb-true, false-iff}
+use Rattle.sets.proofs.Bools.{not-both, true-or-false, or-false, not-false, eqb-true, false-iff}
 use Rattle.sheet.specs.Layout.{stepsAt, componentCount, actionCount, front}
-use Rattle.sheet.specs.Refusals.{sameBytes}
+use Rattle.sheet.specs.Refusals.{sameNumbers}
 use Rattle.sheet.specs.Verdict.{Accepted}
-use Rattle.sheet.proofs.Limits.{same-bytes}
+use Rattle.sheet.proofs.Limits.{same-numbers}
 use Rattle.answers.specs.Related.{SameTables, RelatedSheets}
 use Rattle.answers.specs.Restated.{restatedSteps}
 use Rattle.answers.specs.Outcomes.{given, refused}
@@ -21,13 +21,13 @@ use Rattle.answers.specs.FirstRefusal.{TablesDiffer, TwoSheetRefusal, Re
 use Rattle.answers.proofs.RefusalsDue.{after-sheet, on-given}
 use Rattle.answers.proofs.Relations.{related-steps, steps-related}
 
--- 14 does not hold exactly when the two sheets are over the same tables
+-- R14 does not hold exactly when the two sheets are over the same tables
 pub differ-false : (b c : List ℕ) → (tablesDiffer b c ≡ false) ↔ SameTables b c
 unfolding tablesDiffer
 differ-false b c = (
   λ e. let l = or-false (p || q || r) s .0 e in let k = or-false (p || q) r .0 (l .0) in let h = or-false p q .0 (k .0) in
       record {
-        same-front = same-bytes (front b) (front c) .0 (not-false _ .0 (h .0));
+        same-front = same-numbers (front b) (front c) .0 (not-false _ .0 (h .0));
         same-steps-at = eqb-true (stepsAt b) (stepsAt c) .0 (not-false _ .0 (h .1));
         same-components = eqb-true (componentCount b) (componentCount c) .0 (not-false _ .0 (k .1));
         same-actions = eqb-true (actionCount b) (actionCount c) .0 (not-false _ .0 (l .1));
@@ -36,7 +36,7 @@ differ-false b c = (
       or-false (p || q || r) s .1 (
         or-false (p || q) r .1 (
           or-false p q .1 (
-            not-false _ .1 (same-bytes (front b) (front c) .1 (t .same-front)),
+            not-false _ .1 (same-numbers (front b) (front c) .1 (t .same-front)),
             not-false _ .1 (eqb-true (stepsAt b) (stepsAt c) .1 (t .same-steps-at)),
           ),
           not-false _ .1 (eqb-true (componentCount b) (componentCount c) .1 (t .same-components)),
@@ -46,7 +46,7 @@ differ-false b c = (
 )
   where
     p : Bool
-    p = not (sameBytes (front b) (front c))
+    p = not (sameNumbers (front b) (front c))
 
     q : Bool
     q = not (eqb (stepsAt b) (stepsAt c))
@@ -64,7 +64,7 @@ differ-due b c x k i s = go (tablesDiffer b c) refl
   where
     go : (d : Bool) → tablesDiffer b c ≡ d → (unlessDiffer d x ≡ refused k i s) ↔ TablesDiffer b c k i s
     go true q = (
-      λ e. (λ t. clash q (differ-false b c .1 t), (cc, cc, cc)),
+      λ e. (λ t. not-both q (differ-false b c .1 t), (cc, cc, cc)),
       λ p. let n = p .1 .0 in let j = p .1 .1 in let w = p .1 .2 in cc,
     )
     go false q = (
@@ -101,22 +101,22 @@ two-given {A} b c x y = (
 pub work-same : (b c : List ℕ) → (sameWork b c ≡ given true) ↔ RelatedSheets b c
 unfolding sameWork
 work-same b c = (
-  λ e. let h = two-given b c (sameBytes (restatedSteps b) (restatedSteps c)) true .0 e in
-      steps-related b c (h .0) (h .1) (h .2) (same-bytes (restatedSteps b) (restatedSteps c) .0 (h .3)),
-  λ r. two-given b c (sameBytes (restatedSteps b) (restatedSteps c)) true .1
-      (r .first-accepted, r .second-accepted, r .same-tables, same-bytes (restatedSteps b) (restatedSteps c) .1 (related-steps r)),
+  λ e. let h = two-given b c (sameNumbers (restatedSteps b) (restatedSteps c)) true .0 e in
+      steps-related b c (h .0) (h .1) (h .2) (same-numbers (restatedSteps b) (restatedSteps c) .0 (h .3)),
+  λ r. two-given b c (sameNumbers (restatedSteps b) (restatedSteps c)) true .1
+      (r .first-accepted, r .second-accepted, r .same-tables, same-numbers (restatedSteps b) (restatedSteps c) .1 (related-steps r)),
 )
 
 pub work-other : (b c : List ℕ) → (sameWork b c ≡ given false) ↔ (Accepted b × Accepted c × SameTables b c × (¬ RelatedSheets b c))
 unfolding sameWork
 work-other b c = (
-  λ e. let h = two-given b c (sameBytes (restatedSteps b) (restatedSteps c)) false .0 e in
-      (h .0, h .1, h .2, λ r. clash (same-bytes (restatedSteps b) (restatedSteps c) .1 (related-steps r)) (h .3)),
-  λ h. two-given b c (sameBytes (restatedSteps b) (restatedSteps c)) false .1 (
+  λ e. let h = two-given b c (sameNumbers (restatedSteps b) (restatedSteps c)) false .0 e in
+      (h .0, h .1, h .2, λ r. not-both (same-numbers (restatedSteps b) (restatedSteps c) .1 (related-steps r)) (h .3)),
+  λ h. two-given b c (sameNumbers (restatedSteps b) (restatedSteps c)) false .1 (
     h .0,
     h .1,
     h .2,
-    false-iff (sameBytes (restatedSteps b) (restatedSteps c)) .1
-        (λ e. h .3 (steps-related b c (h .0) (h .1) (h .2) (same-bytes (restatedSteps b) (restatedSteps c) .0 e))),
+    false-iff (sameNumbers (restatedSteps b) (restatedSteps c)) .1
+        (λ e. h .3 (steps-related b c (h .0) (h .1) (h .2) (same-numbers (restatedSteps b) (restatedSteps c) .0 e))),
   ),
 )

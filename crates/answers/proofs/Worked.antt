@@ -17,10 +17,10 @@ use Rattle.sheet.specs.Layout.{recordsAt, transitionsAt, stepsAt, componentCoun
 use Rattle.sheet.specs.Refusals.{lengthWrong, markWrong, countsWrong, offsetsWrong, recordWrong, recordsWrong, actionUnused, transitionWrong, transitionsWrong, orderWrong, tooManyActions}
 use Rattle.sheet.specs.Verdict.{stepsVerdict, verdict}
 use Rattle.sheet.specs.Writing.{trailer, sheetOf}
-use Rattle.sheet.proofs.Limits.{same-bytes}
+use Rattle.sheet.proofs.Limits.{same-numbers}
 use Rattle.answers.specs.Outcomes.{Outcome, given, refused}
 use Rattle.answers.specs.LentOutput.{lengthOr13}
-use Rattle.answers.specs.EndSets.{endSet, endsOutcome}
+use Rattle.answers.specs.Ends.{endSet, endsOutcome}
 use Rattle.answers.specs.Restated.{restatedSteps, restated}
 use Rattle.answers.specs.Restating.{restating}
 use Rattle.answers.specs.ProcessCheck.{processCheck}
@@ -38,7 +38,7 @@ unfolding upward below members membersFrom shares dependent rounds closure start
 all-come-out = refl
 
 same-outcome : (o p : Outcome (List ℕ)) → sameOutcome o p ≡ true → o ≡ p
-same-outcome (given xs) (given ys) e = ap given (same-bytes xs ys .0 e)
+same-outcome (given xs) (given ys) e = ap given (same-numbers xs ys .0 e)
 same-outcome (given xs) (refused k i s) e = absurd (false≢true e)
 same-outcome (refused k i s) (given ys) e = absurd (false≢true e)
 same-outcome (refused k i s) (refused l j t) e =
@@ -49,6 +49,6 @@ same-outcome (refused k i s) (refused l j t) e =
     let r = eqb-true s t .0 (h .1) in
     cc
 
--- each answer of the table is what the table says
+-- S6, E5, N7, N8, R13, R14, O6, O7, A1 to A5, P1 to P5: each answer of the table is what the table says
 pub worked-hold : (r : Worked) → List·Memᴰ r worked → r .found ≡ r .due
 worked-hold r m = same-outcome (r .found) (r .due) (allOf-elim comesOut worked all-come-out r m)

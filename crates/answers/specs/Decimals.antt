@@ -1,4 +1,4 @@
--- Decimal numbers read back: what `decimal` is to be, said without how it is made.
+-- P1: decimal numbers read back: what `decimal` is to be, said without how it is made.
 -- Assumes nothing.
 use mathlib.Core.Path.{_≡_}
 use mathlib.Core.Logic.{_≢_}

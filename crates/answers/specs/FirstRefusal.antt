@@ -14,7 +14,7 @@ use Rattle.answers.specs.Restated.{restated}
 use Rattle.answers.specs.Related.{SameTables}
 use Rattle.answers.specs.Report.{report}
 
--- where a refusal with this number, step index and sheet is due
+-- O4, O7: where a refusal with this number, step index and sheet is due
 abbrev pub Refusal : Type 1
 Refusal = ℕ → ℕ → ℕ → Type 0
 
@@ -37,7 +37,7 @@ TooShort room text k i s = (room < length text) × Numbered 13 k i s
 abbrev pub TablesDiffer : List ℕ → List ℕ → Refusal
 TablesDiffer b c k i s = (¬ SameTables b c) × Numbered 14 k i s
 
--- the refusal of each call: on one sheet, restating, the report (a refused sheet has a text too), and on two sheets
+-- O1 to O7: the refusal of each call: on one sheet, restating, the report (a refused sheet has a text too), and on two sheets
 abbrev pub SheetRefusal : List ℕ → Refusal
 SheetRefusal b = AfterSheet 0 b NoRefusal
 
@@ -50,7 +50,7 @@ ReportRefusal b room = TooShort room (report b)
 abbrev pub TwoSheetRefusal : List ℕ → List ℕ → Refusal
 TwoSheetRefusal b c = AfterSheet 0 b (AfterSheet 1 c (TablesDiffer b c))
 
--- at most one refusal is due
+-- O1: at most one refusal is due
 abbrev pub AtMostOne : Refusal → Type 0
 AtMostOne P = (k i s l j t : ℕ) → P k i s → P l j t → (k ≡ l) × (i ≡ j) × (s ≡ t)
 

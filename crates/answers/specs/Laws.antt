@@ -23,7 +23,7 @@ use Rattle.sheet.specs.Layout.{componentCount, actionCount, front, tables, step
 use Rattle.sheet.specs.Limits.{InLimits}
 use Rattle.sheet.specs.Verdict.{Verdict, verdict, IsVerdict, Accepted}
 use Rattle.answers.specs.Outcomes.{given, refused, after}
-use Rattle.answers.specs.EndSets.{endSet, endSets}
+use Rattle.answers.specs.Ends.{endSet, endSets}
 use Rattle.answers.specs.Restated.{restatedSteps, restated}
 use Rattle.answers.specs.Related.{SameTables, RelatedSheets}
 use Rattle.answers.specs.Restating.{restating, outputAfter}
@@ -38,14 +38,17 @@ use Rattle.answers.specs.Report.{refusedWord, line, summaryLine, stepLin
 use Rattle.answers.specs.FirstRefusal.{SheetRefusal, RestateRefusal, ReportRefusal, TwoSheetRefusal, AtMostOne, RefusesBy}
 use Rattle.answers.specs.SheetExecution.{systemIn, actionSets, ExecutionTo, ProcessIn}
 
+-- D1: a result, or the one refusal that is due
 pub record RefusalLaws : Type 1 where
-  -- the verdict is the first refusal in the printed order, or accepted when none holds; nothing else is
+  -- O1: the verdict is the first refusal in the printed order, or accepted when none holds; nothing else is
   pub first-refusal : (b : List ℕ) → IsVerdict b (verdict b)
   pub only-refusal : (b : List ℕ) (v : Verdict) → IsVerdict b v → v ≡ verdict b
-  -- the outcome of a call is a refusal exactly where one is due
+  -- the outcome of a call is a refusal exactly where one is due: of one sheet
   pub sheet-refused : {A : Type 0} (b : List ℕ) (x : A) → RefusesBy (SheetRefusal b) (after (verdict b) (given x))
+  -- of restating and of the report: also R13
   pub restate-refused : (b : List ℕ) (room : ℕ) → RefusesBy (RestateRefusal b room) (restating b room)
   pub report-refused : (b : List ℕ) (room : ℕ) → RefusesBy (ReportRefusal b room) (reporting b room)
+  -- of two sheets (O6), with the sheet that it is about (O7), and R14
   pub two-refused : {A : Type 0} (b c : List ℕ) (x : A) → RefusesBy (TwoSheetRefusal b c) (ofTwo b c x)
   -- at most one is
   pub one-of-sheet : (b : List ℕ) → AtMostOne (SheetRefusal b)
@@ -53,46 +56,56 @@ pub record RefusalLaws : Type 1 where
   pub one-of-report : (b : List ℕ) (room : ℕ) → AtMostOne (ReportRefusal b room)
   pub one-of-two : (b c : List ℕ) → AtMostOne (TwoSheetRefusal b c)
 
--- restating into lent bytes
+-- D1, R13, O5, N9: restating into lent bytes
 pub record OutputLaws : Type 0 where
+  -- R13: an output as long as the restated sheet serves
   pub long-enough : (b : List ℕ) (room : ℕ) → Accepted b → length (restated b) ≤ room → restating b room ≡ given (length (restated b))
+  -- O5: a refused call leaves the output as it came
   pub refused-untouched : (b out : List ℕ) (k i s : ℕ) → restating b (length out) ≡ refused k i s → outputAfter b out ≡ out
+  -- N9: the restated sheet stands in front, and the bytes behind it stay
   pub written : (b out : List ℕ) (k : ℕ) → restating b (length out) ≡ given k → take k (outputAfter b out) ≡ restated b
   pub behind-kept : (b out : List ℕ) (k : ℕ) → restating b (length out) ≡ given k → drop k (outputAfter b out) ≡ drop k out
 
--- accepted sheets and end sets
+-- D2: accepted sheets and end sets
 pub record ExecutionLaws : Type 1 where
+  -- accepted exactly when the steps are a step execution as published (Q6), within the limits
   pub accepted-exactly : (b : List ℕ) → Accepted b ↔ (InLimits b × ((F : Determinized) × ExecutionTo b F))
-  -- the published step execution ends in the end sets, and nowhere else
+  -- E5: the published step execution ends in the end sets, and nowhere else
   pub ends-published : (b : List ℕ) → Accepted b → ExecutionTo b (endSets b)
   pub ends-only : (b : List ℕ) → Accepted b → (F : Determinized) → ExecutionTo b F
       → (j : ℕ) → j < componentCount b → (q : ℕ) → F j q ↔ endSets b j q
-  -- for every chosen order w within the steps
+  -- M4: the end sets pick exactly the states reached, for every chosen order w within the steps
   pub picked-exactly : (b : List ℕ) → Accepted b → (w : List ℕ) → Linearization (actionSets b) w
       → (t : Global) → Picked (systemIn b) (endSets b) t ↔ Reaches (systemIn b) w t
-  -- the flat list is such an order, and some global state is picked: neither side is empty
+  -- the flat list (N2) is such an order, and some global state is picked: neither side is empty
   pub some-order : (b : List ℕ) → Accepted b → Linearization (actionSets b) (flat (steps b))
   pub some-picked : (b : List ℕ) → Accepted b → (t : Global) × Picked (systemIn b) (endSets b) t
-  -- each component of an accepted sheet is an LTS as published (Q1)
+  -- Q1: each component of an accepted sheet is an LTS as published
   pub components-lts : (b : List ℕ) → Accepted b → (j : ℕ) → j < componentCount b → IsLts (ltsOf (tables b) j)
 
--- the restated sheet of an accepted sheet
+-- D3, N8: the restated sheet of an accepted sheet
 pub record RestatedLaws : Type 1 where
+  -- N5: the same bytes exactly for related sheets
   pub same-bytes : (b c : List ℕ) → Accepted b → Accepted c → (restated b ≡ restated c) ↔ RelatedSheets b c
+  -- what is written are bytes
   pub restated-bytes : (b : List ℕ) → AreBytes b → Accepted b → AreBytes (restated b)
-  -- accepted, over the same tables, related to its sheet
+  -- N4, N5: accepted, over the same tables, related to its sheet
   pub restated-related : (b : List ℕ) → Accepted b → RelatedSheets b (restated b)
+  -- Q8: a process execution
   pub restated-process : (b : List ℕ) → Accepted b → ProcessIn (restated b)
+  -- E5: with the same end sets
   pub restated-ends : (b : List ℕ) → Accepted b → (j : ℕ) → j < componentCount b → endSet (restated b) j ≡ endSet b j
+  -- N10: its steps, counted in its bytes; it is no longer than its sheet
   pub restated-count : (b : List ℕ) → Accepted b → stepCount (restated b) ≡ length (restatedSteps b)
   pub restated-no-longer : (b : List ℕ) → Accepted b → length (restated b) ≤ length b
-  -- no related sheet has fewer steps
+  -- N10: no related sheet has fewer steps
   pub fewest-steps : (b c : List ℕ) → RelatedSheets b c → stepCount (restated b) ≤ stepCount c
+  -- restated again it is the same
   pub restated-again : (b : List ℕ) → Accepted b → restated (restated b) ≡ restated b
   -- N8: no other related sheet meets the process condition
   pub restated-only : (b c : List ℕ) → AreBytes c → RelatedSheets b c → ProcessCondition (systemIn c) (actionSets c) → c ≡ restated b
 
--- the other answers
+-- A1 to A5, N7, P2 to P5: the other answers
 pub record AnswerLaws : Type 1 where
   -- N7: the process check says yes just of process executions (Q8), and else tells the first step that offends
   pub process-exactly : (b : List ℕ) → (processCheck b ≡ given none) ↔ (Accepted b × ProcessIn b)
@@ -110,16 +123,16 @@ pub record AnswerLaws : Type 1 where
   pub first-section : (b c : List ℕ) → winner b c ≡ given 0 → leaner b c ≡ stepSection b
   pub second-section : (b c : List ℕ) → winner b c ≡ given 1 → leaner b c ≡ stepSection c
   pub no-section : (b c : List ℕ) (k i s : ℕ) → winner b c ≡ refused k i s → leaner b c ≡ []
-  -- the step section stands between the bytes before S and the trailer
+  -- A2: the step section stands between the bytes before S and the trailer
   pub section-between : (b : List ℕ) → Accepted b → front b ++ (stepSection b ++ drop (length b - trailerSize) b) ≡ b
   -- A4: the figure, to the nearest whole number, a half upwards: with a actions in k steps the figure q has
   -- q ≤ 10 * a / k + 1 / 2 < q + 1, here times 2 * k
   pub figure-nearest : (b : List ℕ) → 0 < length (restatedSteps b)
       → (2 * length (restatedSteps b) * figure b ≤ 20 * length (flat (steps b)) + length (restatedSteps b))
       × (20 * length (flat (steps b)) + length (restatedSteps b) < 2 * length (restatedSteps b) * (figure b + 1))
-  -- without steps it is 0
+  -- A4: without steps it is 0
   pub figure-zero : (b : List ℕ) → length (restatedSteps b) ≡ 0 → figure b ≡ 0
-  -- the worked number of A4
+  -- A4: the worked number
   pub figure-printed : quotient 5 4 ≡ 13
   -- A5: stuck exactly where the end sets enable none of the actions
   pub stuck-exactly : (b : List ℕ) → (stuck b ≡ true) ↔ ((a : ℕ) → a < actionCount b → enabled (tables b) (endSet b) a ≡ false)

@@ -1,6 +1,6 @@
 pub mod Outcomes
 pub mod LentOutput
-pub mod EndSets
+pub mod Ends
 pub mod Restated
 pub mod Related
 pub mod Restating
@@ -12,6 +12,7 @@ pub mod Figure
 pub mod Stuck
 pub mod Report
 pub mod Decimals
+pub mod ReadBack
 pub mod Quoted
 pub mod Worked
 pub mod OutcomeLaws

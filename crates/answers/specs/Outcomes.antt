@@ -19,8 +19,8 @@ values f (given x) = given (f x)
 values f (refused k i s) = refused k i s
 
 -- one number
-abbrev pub single : ℕ → List ℕ
-single x = x ∷ []
+abbrev pub oneValue : ℕ → List ℕ
+oneValue x = x ∷ []
 
 -- 1 for yes, 0 for no
 abbrev pub bit : Bool → ℕ

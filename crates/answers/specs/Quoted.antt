@@ -1,4 +1,4 @@
--- A quoted text as bytes.
+-- A quoted text as bytes; the worked texts are written so (P1 to P5, X1).
 -- Assumes nothing.
 use mathlib.Core.List.{List, [], _∷_}
 use Prim.Native.Nat.{ℕ}

@@ -10,7 +10,7 @@ use Rattle.sheet.specs.Layout.{componentCount, stepCount}
 use Rattle.sheet.specs.Verdict.{Verdict, accepted, refused, verdict}
 use Rattle.answers.specs.Outcomes.{Outcome, bit}
 use Rattle.answers.specs.LentOutput.{lengthOr13, outputBy}
-use Rattle.answers.specs.EndSets.{endSet}
+use Rattle.answers.specs.Ends.{endSet}
 use Rattle.answers.specs.Restated.{restatedSteps}
 use Rattle.answers.specs.Figure.{figure}
 use Rattle.answers.specs.Stuck.{stuck}
@@ -74,6 +74,10 @@ reportBy accepted text = text
 -- P2: one line with number and step index for a refused sheet; the three kinds of lines for an accepted one
 unfoldable pub report : List ℕ → List ℕ
 report b = reportBy (verdict b) (summaryLine b ++ (stepLines b ++ endLines b))
+
+-- so many bytes serve for every text: report-serves (report/Demands)
+abbrev pub reportRoom : ℕ
+reportRoom = 16384
 
 -- how many bytes are printed for the sheet b into an output of `size` bytes, or 13
 unfoldable pub reporting : List ℕ → ℕ → Outcome ℕ

@@ -4,10 +4,10 @@
 use mathlib.Core.Bool.{Bool}
 use mathlib.Core.List.{List}
 use Prim.Native.Nat.{ℕ}
-use Rattle.sheet.specs.Refusals.{sameBytes}
+use Rattle.sheet.specs.Refusals.{sameNumbers}
 use Rattle.answers.specs.Restated.{restatedSteps}
 use Rattle.answers.specs.Outcomes.{Outcome}
 use Rattle.answers.specs.TwoSheets.{ofTwo}
 
 unfoldable pub sameWork : List ℕ → List ℕ → Outcome Bool
-sameWork b c = ofTwo b c (sameBytes (restatedSteps b) (restatedSteps c))
+sameWork b c = ofTwo b c (sameNumbers (restatedSteps b) (restatedSteps c))

@@ -6,43 +6,43 @@ use mathlib.Core.Bool.{Bool, true, false, _&&_}
 use mathlib.Core.List.{List, [], _∷_}
 use Prim.Native.Nat.{ℕ}
 use lib.Dec.{eqb}
-use Rattle.sheet.specs.Refusals.{sameBytes}
+use Rattle.sheet.specs.Refusals.{sameNumbers}
 use Rattle.sheet.specs.Verdict.{Verdict, accepted, refused, verdict}
-use Rattle.answers.specs.EndSets.{endSet}
+use Rattle.answers.specs.Ends.{endSet}
 use Rattle.answers.specs.Restated.{restated}
 use Rattle.answers.specs.Quoted.{textOf}
 use Rattle.answers.specs.Pair.{pairSheet}
 
 -- restated as these steps, with the end sets of components 0 and 1; or refused, with number and step index
-pub data Due : Type 0 where
-  becomes : List ℕ → ℕ → ℕ → Due
-  refusedBy : ℕ → ℕ → Due
+pub data DueResult : Type 0 where
+  becomes : List ℕ → ℕ → ℕ → DueResult
+  refusedBy : ℕ → ℕ → DueResult
 
-pub record Case : Type 0 where
+pub record Trial : Type 0 where
   pub given : List ℕ
-  pub due : Due
+  pub due : DueResult
 
-abbrev pub case : List ℕ → Due → Case
-case xs o = record { given = xs; due = o }
+abbrev pub trial : List ℕ → DueResult → Trial
+trial xs o = record { given = xs; due = o }
 
-abbrev pub starred : List Case
+abbrev pub starred : List Trial
 starred =
     -- no steps
-    case [] (becomes [] 0b1 0b1)
+    trial [] (becomes [] 0b1 0b1)
     -- two independent actions, in two orders and in one step
-    ∷ case (0b1 ∷ 0b10 ∷ []) (becomes (0b11 ∷ []) 0b10 0b110)
-    ∷ case (0b10 ∷ 0b1 ∷ []) (becomes (0b11 ∷ []) 0b10 0b110)
-    ∷ case (0b11 ∷ []) (becomes (0b11 ∷ []) 0b10 0b110)
+    ∷ trial (0b1 ∷ 0b10 ∷ []) (becomes (0b11 ∷ []) 0b10 0b110)
+    ∷ trial (0b10 ∷ 0b1 ∷ []) (becomes (0b11 ∷ []) 0b10 0b110)
+    ∷ trial (0b11 ∷ []) (becomes (0b11 ∷ []) 0b10 0b110)
     -- one component moves, the other keeps its set
-    ∷ case (0b10 ∷ []) (becomes (0b10 ∷ []) 0b1 0b110)
+    ∷ trial (0b10 ∷ []) (becomes (0b10 ∷ []) 0b1 0b110)
     -- two independent actions, then one that both components have
-    ∷ case (0b1 ∷ 0b10 ∷ 0b100 ∷ []) (becomes (0b11 ∷ 0b100 ∷ []) 0b1 0b1)
+    ∷ trial (0b1 ∷ 0b10 ∷ 0b100 ∷ []) (becomes (0b11 ∷ 0b100 ∷ []) 0b1 0b1)
     -- R11 at step 0, R12 at step 0, R12 at step 1
-    ∷ case (0b101 ∷ []) (refusedBy 11 0)
-    ∷ case (0b100 ∷ []) (refusedBy 12 0)
-    ∷ case (0b1 ∷ 0b1 ∷ []) (refusedBy 12 1)
+    ∷ trial (0b101 ∷ []) (refusedBy 11 0)
+    ∷ trial (0b100 ∷ []) (refusedBy 12 0)
+    ∷ trial (0b1 ∷ 0b1 ∷ []) (refusedBy 12 1)
     -- R11 at step 1, which comes before R12: action 0 is not enabled there
-    ∷ case (0b1 ∷ 0b101 ∷ []) (refusedBy 11 1)
+    ∷ trial (0b1 ∷ 0b101 ∷ []) (refusedBy 11 1)
     ∷ []
 
 abbrev pub isAccepted : Verdict → Bool
@@ -53,13 +53,13 @@ abbrev pub isRefusedBy : Verdict → ℕ → ℕ → Bool
 isRefusedBy accepted k i = false
 isRefusedBy (refused r p) k i = eqb r k && eqb p i
 
--- the case comes out as the table says
-abbrev pub holdsFor : List ℕ → Due → Bool
+-- the trial comes out as the table says
+abbrev pub holdsFor : List ℕ → DueResult → Bool
 holdsFor b (becomes ys e₀ e₁) =
-    isAccepted (verdict b) && sameBytes (restated b) (pairSheet ys) && eqb (endSet b 0) e₀ && eqb (endSet b 1) e₁
+    isAccepted (verdict b) && sameNumbers (restated b) (pairSheet ys) && eqb (endSet b 0) e₀ && eqb (endSet b 1) e₁
 holdsFor b (refusedBy k i) = isRefusedBy (verdict b) k i
 
-abbrev pub holds : Case → Bool
+abbrev pub holds : Trial → Bool
 holds c = holdsFor (pairSheet (c .given)) (c .due)
 
 -- X1: the worked example, with the steps {0} {1} {2} {0}

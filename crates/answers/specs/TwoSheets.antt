@@ -6,14 +6,14 @@ use mathlib.Core.List.{List}
 use Prim.Native.Nat.{ℕ}
 use lib.Dec.{eqb}
 use Rattle.sheet.specs.Layout.{stepsAt, componentCount, actionCount, front}
-use Rattle.sheet.specs.Refusals.{sameBytes}
+use Rattle.sheet.specs.Refusals.{sameNumbers}
 use Rattle.sheet.specs.Verdict.{verdict}
 use Rattle.answers.specs.Outcomes.{Outcome, given, refused, onSheet}
 
 -- R14: the two have other bytes before S, or another S, n or m
 unfoldable pub tablesDiffer : List ℕ → List ℕ → Bool
 tablesDiffer b c =
-    not (sameBytes (front b) (front c)) || not (eqb (stepsAt b) (stepsAt c))
+    not (sameNumbers (front b) (front c)) || not (eqb (stepsAt b) (stepsAt c))
     || not (eqb (componentCount b) (componentCount c)) || not (eqb (actionCount b) (actionCount c))
 
 abbrev pub unlessDiffer : {A : Type 0} → Bool → A → Outcome A

@@ -1,19 +1,19 @@
 -- Worked answers: for some sheets, what each call tells and what is printed, number by number and byte by byte. Each definition of an answer
--- has a sheet here that is accepted and one that is refused.
+-- has a sheet here that is accepted and one that is refused (S6, O4, E5, N7, N8, A1 to A5, P1 to P5).
 -- Sets are written as binary numerals, as in Starred.
 -- Assumes nothing.
 use mathlib.Core.Bool.{Bool, true, false, _&&_}
-use mathlib.Core.List.{List, [], _∷_, _++_}
+use mathlib.Core.List.{List, [], _∷_, _++_, map}
 use Prim.Native.Nat.{ℕ, _-_, _^_}
 use lib.Dec.{eqb}
 use lib.ListN.{replicate}
-use Rattle.sets.specs.Lists.{appendAll}
+use Rattle.sets.specs.Lists.{appendAll, upward, below}
 use Rattle.traces.specs.Offences.{offending}
-use Rattle.sheet.specs.Refusals.{sameBytes}
+use Rattle.sheet.specs.Refusals.{sameNumbers}
 use Rattle.sheet.specs.Verdict.{verdict}
 use Rattle.sheet.specs.Writing.{sheetOf}
-use Rattle.answers.specs.Outcomes.{Outcome, given, refused, values, single, bit, readOutcome}
-use Rattle.answers.specs.EndSets.{endsOutcome}
+use Rattle.answers.specs.Outcomes.{Outcome, given, refused, values, oneValue, bit, readOutcome}
+use Rattle.answers.specs.Ends.{endsOutcome}
 use Rattle.answers.specs.ProcessCheck.{processCheck}
 use Rattle.answers.specs.Restated.{restatedSteps}
 use Rattle.answers.specs.Restating.{restating}
@@ -66,6 +66,17 @@ widestSheet =
     ++ (15 ∷ 30 ∷ 63 ∷ 31 ∷ []))))
     16 64 (2 ^ 63 ∷ [])
 
+-- sixteen components, each with an action of its own: component 0 has 32 states, and may be in any of them. All act together in ten steps,
+-- and in two more all but the last, then the last
+abbrev pub fullSheet : List ℕ
+fullSheet =
+    sheetOf
+    (recordBytes 32 (2 ^ 32 - 1) 0b1
+    ++ (appendAll (map (λ j. recordBytes 1 0b1 (2 ^ j)) (upward 1 15))
+    ++ (appendAll (map (λ q. 0 ∷ q ∷ 0 ∷ q ∷ []) (below 32))
+    ++ appendAll (map (λ j. j ∷ 0 ∷ j ∷ 0 ∷ []) (upward 1 15)))))
+    16 16 (replicate 10 (2 ^ 16 - 1) ++ ((2 ^ 15 - 1) ∷ 2 ^ 15 ∷ []))
+
 -- the same bytes before S as four records of 16 bytes and four transitions, or as five records: the two sheets differ in n alone
 abbrev frontBytes : List ℕ
 frontBytes =
@@ -93,13 +104,13 @@ abbrev sizesTold : List ℕ → Outcome (List ℕ)
 sizesTold b = readOutcome b (verdict b)
 
 abbrev numberTold : Outcome ℕ → Outcome (List ℕ)
-numberTold o = values single o
+numberTold o = values oneValue o
 
 abbrev bitTold : Outcome Bool → Outcome (List ℕ)
-bitTold o = values (λ t. single (bit t)) o
+bitTold o = values (λ t. oneValue (bit t)) o
 
 abbrev processTold : List ℕ → Outcome (List ℕ)
-processTold b = values (λ o. single (offending o)) (processCheck b)
+processTold b = values (λ o. oneValue (offending o)) (processCheck b)
 
 abbrev pub worked : List Worked
 worked =
@@ -162,11 +173,17 @@ worked =
     (given (textOf "accepted 8 5 16 0\nstep 0 1\nstep 2\nstep 0 1\nstep 2\nstep 0 1\nend 0 1\nend 1 1 2\n"))
     ∷ row (given (report widestSheet))
     (given (textOf "accepted 1 1 10 1\nstep 63\nend 0 0\nend 1 0\nend 2 0\nend 3 0\nend 4 0\nend 5 0\nend 6 0\nend 7 0\nend 8 0\nend 9 0\nend 10 0\nend 11 0\nend 12 0\nend 13 0\nend 14 0\nend 15 31\n"))
+    ∷ row (given (report fullSheet))
+    (given
+    (textOf "accepted 12 11 160 0\n"
+    ++ (appendAll (replicate 11 (textOf "step 0 1 2 3 4 5 6 7 8 9 10 11 12 13 14 15\n"))
+    ++ (textOf "end 0 0 1 2 3 4 5 6 7 8 9 10 11 12 13 14 15 16 17 18 19 20 21 22 23 24 25 26 27 28 29 30 31\nend 1 0\nend 2 0\nend 3 0\n"
+    ++ textOf "end 4 0\nend 5 0\nend 6 0\nend 7 0\nend 8 0\nend 9 0\nend 10 0\nend 11 0\nend 12 0\nend 13 0\nend 14 0\nend 15 0\n"))))
     ∷ []
 
 -- two outcomes are the same
 abbrev pub sameOutcome : Outcome (List ℕ) → Outcome (List ℕ) → Bool
-sameOutcome (given xs) (given ys) = sameBytes xs ys
+sameOutcome (given xs) (given ys) = sameNumbers xs ys
 sameOutcome (given xs) (refused k i s) = false
 sameOutcome (refused k i s) (given ys) = false
 sameOutcome (refused k i s) (refused l j t) = eqb k l && eqb i j && eqb s t

@@ -21,6 +21,12 @@ pub enum Answer {
     },
 }
 
+// The answer on a sheet, and for an accepted one the end set of each component.
+pub struct EndSets {
+    pub answer: Answer,
+    pub sets: [u64; 16],
+}
+
 // 1 for yes, 0 for no.
 pub fn bit(b: bool) -> u64
     ensures { λ r. ⌜ r ≡ bit b ⌝ }

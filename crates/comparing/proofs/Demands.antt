@@ -18,13 +18,14 @@ use Rattle.answers.specs.Leaner.{winner}
 use Rattle.answers.proofs.Told.{number-only, number-exactly, bit-exactly}
 use Rattle.answers.proofs.FirstRefusal.{work-refuses, winner-refuses, number-or}
 use Rattle.answers.proofs.Laws.{restated-laws, answer-laws}
-use Rattle.desk.specs.Demands.{Wrote}
+use Rattle.desk.specs.Demands.{RestateWrote}
 use Rattle.desk.proofs.Demands.{wrote-accepted, wrote-restated, call-demand3}
 use Rattle.comparing.specs.Calls.{WinnerAnswer}
 use Rattle.comparing.specs.Demands.{TwoSheetDemand1, SameWorkDemand, LeanerDemand}
 
 -- ---- the refusals
 
+-- D1, O6, O7, R14, A2: a result, or the one refusal that is due
 pub two-sheet-demand1 : TwoSheetDemand1
 two-sheet-demand1 =
     record {
@@ -35,10 +36,11 @@ two-sheet-demand1 =
 
 -- ---- same work
 
-same-written : {b c w v : List ℕ} → Wrote b w → Wrote c v → (w ≡ v) ↔ (restated b ≡ restated c)
+same-written : {b c w v : List ℕ} → RestateWrote b w → RestateWrote c v → (w ≡ v) ↔ (restated b ≡ restated c)
 same-written o p =
     (λ e. sym (wrote-restated o) ∙ e ∙ wrote-restated p, λ e. wrote-restated o ∙ e ∙ sym (wrote-restated p))
 
+-- A1: yes exactly for related sheets
 pub same-work-demand : SameWorkDemand
 same-work-demand =
     record {
@@ -51,7 +53,7 @@ same-work-demand =
 
 -- ---- the leaner answer
 
-module _ (b c w v : List ℕ) (r : Answer) (t : WinnerAnswer b c r) (o : Wrote b w) (p : Wrote c v) (same : SameTables b c) where
+module _ (b c w v : List ℕ) (r : Answer) (t : WinnerAnswer b c r) (o : RestateWrote b w) (p : RestateWrote c v) (same : SameTables b c) where
   first-told : (r ≡ Answer.Given 0) ↔ (stepCount w ≤ stepCount v)
   first-told =
       let k = call-demand3 .written-count b w o in
@@ -66,6 +68,7 @@ module _ (b c w v : List ℕ) (r : Answer) (t : WinnerAnswer b c r) (o : Wrote b
       let told = Iff·trans (number-exactly r (winner b c) t 1) (answer-laws .second-wins b c) in
       (λ e. let h = told .0 e .3 in omega arith, λ h. told .1 (wrote-accepted o, wrote-accepted p, same, omega arith))
 
+-- A2, A3: the sheet with fewer restated steps, and its step section
 pub leaner-demand : LeanerDemand
 leaner-demand =
     record {

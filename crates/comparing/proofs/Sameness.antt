@@ -9,8 +9,8 @@ use borrow.Author.Count.{below-more}
 use lib.ListN.{length, getD}
 use lib.Seq.{ext-getD}
 use Rattle.sets.proofs.Bools.{false-iff}
-use Rattle.sheet.specs.Refusals.{sameBytes}
-use Rattle.sheet.proofs.Limits.{same-bytes}
+use Rattle.sheet.specs.Refusals.{sameNumbers}
+use Rattle.sheet.proofs.Limits.{same-numbers}
 
 -- the lists are as long as each other, and the same below i
 pub record SameTo (a b : List ℕ) (i : ℕ) : Type 0 where
@@ -19,13 +19,13 @@ pub record SameTo (a b : List ℕ) (i : ℕ) : Type 0 where
   pub passed : (k : ℕ) → k < i → getD a k 0 ≡ getD b k 0
 
 module _ (a b : List ℕ) where
-  pub lists-apart : ¬ (a ≡ b) → false ≡ sameBytes a b
-  lists-apart n = sym (false-iff (sameBytes a b) .1 (λ e. n (same-bytes a b .0 e)))
+  pub lists-apart : ¬ (a ≡ b) → false ≡ sameNumbers a b
+  lists-apart n = sym (false-iff (sameNumbers a b) .1 (λ e. n (same-numbers a b .0 e)))
 
-  pub apart-length : ¬ (length a ≡ length b) → false ≡ sameBytes a b
+  pub apart-length : ¬ (length a ≡ length b) → false ≡ sameNumbers a b
   apart-length n = lists-apart (λ e. n (ap length e))
 
-  pub apart-at : (i : ℕ) → ¬ (getD a i 0 ≡ getD b i 0) → false ≡ sameBytes a b
+  pub apart-at : (i : ℕ) → ¬ (getD a i 0 ≡ getD b i 0) → false ≡ sameNumbers a b
   apart-at i n = lists-apart (λ e. n (ap (λ (l : List ℕ). getD l i 0) e))
 
   pub same-none : length a ≡ length b → SameTo a b 0
@@ -34,5 +34,5 @@ module _ (a b : List ℕ) where
   pub same-more : (i : ℕ) → SameTo a b i → i < length a → getD a i 0 ≡ getD b i 0 → SameTo a b (i + 1)
   same-more i p l e = record { within = omega arith; as-long = p .as-long; passed = below-more _ _ (p .passed) e }
 
-  pub same-all : (i : ℕ) → SameTo a b i → length a ≤ i → true ≡ sameBytes a b
-  same-all i p l = sym (same-bytes a b .1 (ext-getD 0 a b (p .as-long) (λ k h. p .passed k (omega arith))))
+  pub same-all : (i : ℕ) → SameTo a b i → length a ≤ i → true ≡ sameNumbers a b
+  same-all i p l = sym (same-numbers a b .1 (ext-getD 0 a b (p .as-long) (λ k h. p .passed k (omega arith))))

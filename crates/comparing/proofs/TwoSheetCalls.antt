@@ -1,4 +1,4 @@
--- What the calls on two sheets answer: of a pair that passed what was asked for, else the refusal of the pair.
+-- A1 to A3: what the calls on two sheets answer: of a pair that passed what was asked for, else the refusal of the pair.
 -- Assumes nothing.
 use mathlib.Core.Path.{_≡_, refl, sym, ap, _∙_}
 use mathlib.Core.Bool.{Bool, true, false, cond}
@@ -6,11 +6,11 @@ use mathlib.Core.List.{List, []}
 use Prim.Native.Nat.{ℕ}
 use lib.Dec.{ltb}
 use lib.ListN.{length}
-use Rattle.sheet.specs.Refusals.{sameBytes}
+use Rattle.sheet.specs.Refusals.{sameNumbers}
 use Rattle.answers.specs.declared.Sizes.{Sizes}
 use Rattle.answers.specs.declared.Answer.{Answer}
 use Rattle.answers.specs.Restated.{restatedSteps}
-use Rattle.answers.specs.Outcomes.{given, refused, values, single, bit, outcomeOf, sizesOf}
+use Rattle.answers.specs.Outcomes.{given, refused, values, oneValue, bit, outcomeOf, sizesOf}
 use Rattle.answers.specs.TwoSheets.{ofTwo}
 use Rattle.answers.specs.SameWork.{sameWork}
 use Rattle.answers.specs.Leaner.{winner}
@@ -40,16 +40,16 @@ module _ {b c : List ℕ} {z : Sizes} (p : BothPassed b c z) where
   gives x = sym (two-given b c x x .1 (p .first-accepted .sheet-accepted, p .second-accepted .sheet-accepted, p .same-tables, refl))
 
   -- a call that asks x of the pair, and tells it as the number y
-  two-answered : {A : Type 0} (f : A → List ℕ) (x : A) (y : ℕ) → single y ≡ f x → outcomeOf (Answer.Given y) ≡ values f (ofTwo b c x)
+  two-answered : {A : Type 0} (f : A → List ℕ) (x : A) (y : ℕ) → oneValue y ≡ f x → outcomeOf (Answer.Given y) ≡ values f (ofTwo b c x)
   two-answered f x y e = ap given e ∙ ap (values f) (gives x)
 
-  pub work-told : (t : Bool) (y : ℕ) → y ≡ bit t → t ≡ sameBytes (restatedSteps b) (restatedSteps c) → SameWorkAnswer b c (Answer.Given y)
+  pub work-told : (t : Bool) (y : ℕ) → y ≡ bit t → t ≡ sameNumbers (restatedSteps b) (restatedSteps c) → SameWorkAnswer b c (Answer.Given y)
   unfolding sameWork
-  work-told t y e q = two-answered (λ (s : Bool). single (bit s)) (sameBytes (restatedSteps b) (restatedSteps c)) y (ap single (e ∙ ap bit q))
+  work-told t y e q = two-answered (λ (s : Bool). oneValue (bit s)) (sameNumbers (restatedSteps b) (restatedSteps c)) y (ap oneValue (e ∙ ap bit q))
 
   pub winner-told : (t : Bool) (y : ℕ) → y ≡ bit t → t ≡ fewer b c → WinnerAnswer b c (Answer.Given y)
   unfolding winner
-  winner-told t y e q = two-answered single (cond (fewer b c) 1 0) y (ap single (e ∙ ap bit q ∙ bit-cond (fewer b c)))
+  winner-told t y e q = two-answered oneValue (cond (fewer b c) 1 0) y (ap oneValue (e ∙ ap bit q ∙ bit-cond (fewer b c)))
 
   winner-is : (t : Bool) → t ≡ fewer b c → winner b c ≡ given (bit t)
   unfolding winner
@@ -74,11 +74,11 @@ module _ {b c : List ℕ} {a : Answer} (s : TwoRefused b c a) where
 
   pub no-work : SameWorkAnswer b c a
   unfolding sameWork
-  no-work = two-refused (λ (t : Bool). single (bit t)) (sameBytes (restatedSteps b) (restatedSteps c))
+  no-work = two-refused (λ (t : Bool). oneValue (bit t)) (sameNumbers (restatedSteps b) (restatedSteps c))
 
   pub no-winner : WinnerAnswer b c a
   unfolding winner
-  no-winner = two-refused single (cond (fewer b c) 1 0)
+  no-winner = two-refused oneValue (cond (fewer b c) 1 0)
 
   none-won : winner b c ≡ refused (s .number) (s .index) (s .sheet)
   unfolding winner

@@ -2,7 +2,7 @@
 ghost use mathlib.Core.Path.{_≡_};
 ghost use lib.Dec.{ltb};
 ghost use lib.ListN.{length};
-ghost use Rattle.sheet.specs.Refusals.{sameBytes};
+ghost use Rattle.sheet.specs.Refusals.{sameNumbers};
 ghost use Rattle.answers.specs.Restated.{restatedSteps};
 ghost use Rattle.desk.specs.AcceptedSheet.{AcceptedSheet};
 use answers::Sizes;
@@ -10,7 +10,7 @@ use desk::restate;
 
 // Whether two step lists are the same.
 fn same_steps(a: &[u64], b: &[u64]) -> bool
-    ensures { λ r. ⌜ r ≡ sameBytes (now (a .entry)) (now (b .entry)) ⌝ }
+    ensures { λ r. ⌜ r ≡ sameNumbers (now (a .entry)) (now (b .entry)) ⌝ }
 {
     if a.len() != b.len() {
         return false;
@@ -28,7 +28,7 @@ fn same_steps(a: &[u64], b: &[u64]) -> bool
 // Whether two accepted sheets have the same restated steps.
 pub fn same_restated(first: &[u8], second: &[u8], sizes: Sizes) -> bool
     requires { ⌜ AcceptedSheet (now first) sizes × AcceptedSheet (now second) sizes ⌝ }
-    ensures { λ r. ⌜ r ≡ sameBytes (restatedSteps (now (first .entry))) (restatedSteps (now (second .entry))) ⌝ }
+    ensures { λ r. ⌜ r ≡ sameNumbers (restatedSteps (now (first .entry))) (restatedSteps (now (second .entry))) ⌝ }
 {
     let mut one = [0u64; 1024];
     let count = restate::pack_sheet(first, sizes, &mut one);

@@ -1,13 +1,13 @@
 // The tables of two sheets compared: refusal 14.
 ghost use mathlib.Core.Path.{_≡_};
-ghost use Rattle.sheet.specs.Refusals.{sameBytes};
+ghost use Rattle.sheet.specs.Refusals.{sameNumbers};
 ghost use Rattle.answers.specs.TwoSheets.{tablesDiffer};
 ghost use Rattle.desk.specs.AcceptedSheet.{AcceptedSheet};
 use answers::Sizes;
 
 // Whether two byte strings are the same.
 fn same_bytes(a: &[u8], b: &[u8]) -> bool
-    ensures { λ r. ⌜ r ≡ sameBytes (now (a .entry)) (now (b .entry)) ⌝ }
+    ensures { λ r. ⌜ r ≡ sameNumbers (now (a .entry)) (now (b .entry)) ⌝ }
 {
     if a.len() != b.len() {
         return false;

@@ -1,7 +1,7 @@
--- Each test of the code is the one definition of dependence, `dependent` (systems, Independence): by alphabets (refusal 11), by the union of
--- the alphabets that a step meets (the process condition), by participants (the level of an action).
--- Whoever changes the definition has to prove anew what stands here and in systems/proofs/Dependence; no other proof looks inside it
--- but the worked examples, which compute everything (answers/proofs/Starred).
+-- N3: each test of the code is the one definition of dependence, `dependent` (systems, Independence): by alphabets (refusal 11), by the
+-- union of the alphabets that a step meets (the process condition), by participants (the level of an action).
+-- Whoever changes the definition has to prove anew what stands here and in systems/proofs/Dependence, and to say anew what speaks of a
+-- shared alphabet; no other proof looks inside it but the worked examples, which compute everything (answers/proofs/Starred).
 -- Assumes nothing.
 use mathlib.Core.Path.{_≡_, refl, sym, ap, ap₂, _∙_, fun-ext}
 use mathlib.Core.Logic.{_↔_, inr}
@@ -15,7 +15,7 @@ use lib.Bits.{bitAnd}
 use lib.ListN.{length, getD}
 use Rattle.sets.specs.Lists.{anyOf, Distinct}
 use Rattle.sets.specs.Bits.{member, members}
-use Rattle.sets.proofs.Bools.{clash as both-ways, iff-bool, and-true, eqb-true, eqb-false}
+use Rattle.sets.proofs.Bools.{not-both, iff-bool, and-true, eqb-true, eqb-false}
 use Rattle.sets.proofs.Lists.{anyOf-intro, anyOf-elim, none-false}
 use Rattle.sets.proofs.Members.{member-zero, member-and, member-some, member-lt, members-mem}
 use Rattle.traces.specs.Foata.{further, reach}
@@ -53,7 +53,7 @@ both-mem x y a = (
 )
 
 module _ (T : Tables) (n : ℕ) (l : List ℕ) (A : Alphabets T n l) where
-  -- no two actions of a step are dependent exactly when no alphabet has two of them
+  -- N3, R11: no two actions of a step are dependent exactly when no alphabet has two of them
   pub clash-alphabets : (x : ℕ) → (notApart T x ≡ false) ↔ ((j : ℕ) → j < n → length (members (bitAnd x (getD l j 0))) ≤ 1)
   unfolding notApart
   clash-alphabets x =
@@ -102,15 +102,15 @@ met-exact x y a = go (eqb (bitAnd x y) 0) refl
 
     none-common : eqb (bitAnd x y) 0 ≡ true → Common x y → ⊥
     none-common e m =
-        both-ways (member-and x y (m .0) ∙ and-true _ _ .1 (m .1, m .2))
+        not-both (member-and x y (m .0) ∙ and-true _ _ .1 (m .1, m .2))
         (ap (λ (z : ℕ). member z (m .0)) (eqb-true (bitAnd x y) 0 .0 e) ∙ member-zero (m .0))
 
     go : (e : Bool) → eqb (bitAnd x y) 0 ≡ e → (member (cond e 0 x) a ≡ true) ↔ ((member x a ≡ true) × Common x y)
-    go true e = (λ m. absurd (both-ways m (member-zero a)), λ m. absurd (none-common e (m .1)))
+    go true e = (λ m. absurd (not-both m (member-zero a)), λ m. absurd (none-common e (m .1)))
     go false e = (λ m. (m, common e), λ m. m .0)
 
 module _ (T : Tables) (order : InOrder T) (n : ℕ) (l : List ℕ) (A : Alphabets T n l) where
-  -- the union has just the actions that depend on some action of the set
+  -- N3: the union has just the actions that depend on some action of the set
   pub union-depends : (y r : ℕ) → y < 2 ^ 64 → UnionMet l n y r → (a : ℕ) → a < T .actions → member r a ≡ anyOf (dependent T a) (members y)
   union-depends y r fits U a below = iff-bool (member r a) (anyOf (dependent T a) (members y)) (there, back)
     where
@@ -155,7 +155,7 @@ reach-largest o last ss (j ∷ js) h =
     ∙ ap₂ max (sym (h j (List·Memᴰ·head refl))) (reach-largest o last ss js (λ i m. h i (List·Memᴰ·tail m)))
 
 module _ (T : Tables) (order : InOrder T) (o : List ℕ) (fit : OfSixteen o) (O : Participants T o) (a : ℕ) (below : a < T .actions) where
-  -- an action depends on just those with which it has a participant in common
+  -- N3: an action depends on just those with which it has a participant in common
   pub depends-participants : (b : ℕ) → dependent T a b ≡ anyOf (λ j. participates o j b) (members (getD o a 0))
   depends-participants b =
       iff-bool (dependent T a b) (anyOf (λ j. participates o j b) (members (getD o a 0))) (
@@ -182,7 +182,7 @@ module _ (T : Tables) (order : InOrder T) (o : List ℕ) (fit : OfSixteen o) (O 
           let q = O .each b (participants-action T o O b j (s .2)) j .0 (s .2) in
           dependent-cases T a b .1 (inr (j, p .0, p .1, q .1))
 
-  -- the level of an action, one past the last step with an action that it depends on, is the largest last step of its participants
+  -- N3: the level of an action, one past the last step with an action that it depends on, is the largest last step of its participants
   pub level-reach : (last : List ℕ) (ss : List (List ℕ)) → ((j : ℕ) → j < 16 → getD last j 0 ≡ reach (participates o j) ss)
       → largest last (members (getD o a 0)) ≡ reach (dependent T a) ss
   level-reach last ss shown =

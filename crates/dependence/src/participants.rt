@@ -3,12 +3,13 @@ ghost use mathlib.Core.Path.{_≡_};
 ghost use Prim.Native.Nat.{_<_, _≤_};
 ghost use lib.ListN.{length, replicate};
 ghost use Rattle.systems.specs.Tables.{Tables};
+ghost use Rattle.sheet.specs.Bounds.{mostComponents, mostActions};
 ghost use Rattle.sheet.specs.Sections.{Alphabets};
 ghost use Rattle.dependence.specs.participants.Participants.{Participants, ComponentEntered};
 
 // Enters component j for each action of its alphabet.
 fn enter(alphabet: u64, j: u32, found: &mut [u64])
-    requires { ⌜ (length (now found) ≡ 64) × (j < 64) ⌝ }
+    requires { ⌜ (length (now found) ≡ mostActions) × (j < 64) ⌝ }
     ensures { λ _. ⌜ ComponentEntered alphabet j (now (found .entry)) (now (found .exit)) ⌝ }
 {
     let mut left = alphabet;
@@ -21,7 +22,7 @@ fn enter(alphabet: u64, j: u32, found: &mut [u64])
 
 // The participants of each action, by n alphabets, into an array of zeros.
 pub fn participants_of(alphabets: &[u64], n: usize, found: &mut [u64])
-    requires { ⌜ (n ≤ 16) × (n ≤ length (now alphabets)) × (now found ≡ replicate 64 0) ⌝ }
+    requires { ⌜ (n ≤ mostComponents) × (n ≤ length (now alphabets)) × (now found ≡ replicate mostActions 0) ⌝ }
     ensures { λ _. ⌜ ((T : Tables) → Alphabets T n (now (alphabets .entry)) → Participants T (now (found .exit))) ⌝ }
 {
     let mut j = 0;

@@ -9,6 +9,7 @@ use Rattle.systems.specs.Running.{start}
 use Rattle.systems.specs.Checking.{flat}
 use Rattle.systems.proofs.Faults.{fault-none}
 use Rattle.systems.proofs.Executions.{flat-below}
+use Rattle.sheet.specs.Bounds.{recordSize, stepSize, trailerSize, mostSteps, mostInSteps}
 use Rattle.sheet.specs.Layout.{transitionsAt, stepsAt, componentCount, actionCount, alphabetOf, front, tablesOf, tables, steps, stepCount}
 use Rattle.sheet.specs.Sections.{stepsIn, Alphabets}
 use Rattle.sheet.specs.Verdict.{verdict, Accepted}
@@ -71,7 +72,7 @@ steps-below b acc =
     flat-below (tables b) (accepted-order b acc) (steps b) (fault-none (tables b) (start (tables b)) 0 (steps b) .0 (accepted-fine b acc) .0)
 
 module _ (b : List ℕ) (z : Sizes) (r : AcceptedSheet b z) where
-  pub records-long : 16 * z .n ≤ length (take (z .t - 0) (drop 0 b))
+  pub records-long : recordSize * z .n ≤ length (take (z .t - 0) (drop 0 b))
   records-long = simp length-take (omega arith)
 
   components-told : tables b .components ≡ z .n
@@ -87,7 +88,7 @@ module _ (b : List ℕ) (z : Sizes) (r : AcceptedSheet b z) where
   unfolding alphabetOf front
   alphabet-same j h =
       let e = r .s-read in
-      field-within (16 * j + 8) 8 (z .t - 0) b (omega arith) ∙ sym (field-within (16 * j + 8) 8 (stepsAt b) b (omega arith))
+      field-within (recordSize * j + 8) 8 (z .t - 0) b (omega arith) ∙ sym (field-within (recordSize * j + 8) 8 (stepsAt b) b (omega arith))
 
   -- an array with the alphabets of the records has those of the sheet
   pub alphabets-told : (l : List ℕ) → Alphabets (tablesOf (take (z .t - 0) (drop 0 b)) (z .n) (z .m)) (z .n) l → Alphabets (tables b) (z .n) l
@@ -108,10 +109,10 @@ module _ (b : List ℕ) (z : Sizes) (r : AcceptedSheet b z) where
     pub section-over : WordOver (tables b) (flat (stepsIn p))
     section-over = rw section-told (steps-below b (r .sheet-accepted))
 
-    pub section-few : length (flat (stepsIn p)) ≤ 1024
+    pub section-few : length (flat (stepsIn p)) ≤ mostInSteps
     section-few = rw section-told (accepted-limits b (r .sheet-accepted) .actions-total)
 
-    pub section-room : length p ≤ 8192
+    pub section-room : length p ≤ stepSize * mostSteps
     section-room = rw e (section-short b (z .s) (r .s-read) (accepted-limits b (r .sheet-accepted)))
 
     pub section-all : p ≡ stepSection b
@@ -119,5 +120,5 @@ module _ (b : List ℕ) (z : Sizes) (r : AcceptedSheet b z) where
     section-all =
         let at = r .s-read in
         let whole = sections-length b (accepted-limits b (r .sheet-accepted)) in
-        let size : length b - 10 - z .s ≡ 8 * stepCount b = omega arith in
+        let size : length b - trailerSize - z .s ≡ stepSize * stepCount b = omega arith in
         e ∙ ap₂ (λ (k i : ℕ). take k (drop i b)) size at

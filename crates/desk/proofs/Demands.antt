@@ -15,13 +15,14 @@ use Rattle.sets.proofs.Filling.{map-below, map-below-at}
 use Rattle.traces.specs.Offences.{offending}
 use Rattle.systems.specs.Interleaving.{Global, Reaches}
 use Rattle.systems.specs.StepExecution.{Linearization, Picked}
+use Rattle.sheet.specs.Bounds.{mostComponents}
 use Rattle.sheet.specs.Layout.{componentCount, actionCount, transitionsAt, stepsAt, tablesOf, tables, stepCount}
 use Rattle.sheet.specs.Verdict.{Verdict, accepted, refused, verdict, Accepted}
 use Rattle.answers.specs.declared.Sizes.{Sizes}
 use Rattle.answers.specs.declared.Answer.{Answer}
-use Rattle.answers.specs.Outcomes.{given, values, single, bit, outcomeOf, after, readOutcome}
+use Rattle.answers.specs.Outcomes.{given, values, oneValue, bit, outcomeOf, after, readOutcome}
 use Rattle.answers.specs.LentOutput.{lengthOr13}
-use Rattle.answers.specs.EndSets.{endSet}
+use Rattle.answers.specs.Ends.{endSet}
 use Rattle.answers.specs.Restated.{restated}
 use Rattle.answers.specs.Related.{RelatedSheets}
 use Rattle.answers.specs.Restating.{restating}
@@ -35,9 +36,9 @@ use Rattle.answers.proofs.Told.{is-given, refused-only, number-only, offence-ex
 use Rattle.answers.proofs.LentOutput.{given-long, given-length, given-output, given-written}
 use Rattle.answers.proofs.FirstRefusal.{restate-refuses, process-refuses, figure-refuses, stuck-refuses, sizes-or, number-or}
 use Rattle.answers.proofs.Laws.{refusal-laws, output-laws, execution-laws, restated-laws, answer-laws}
-use Rattle.desk.specs.declared.verdict.EndSets.{EndSets}
+use Rattle.answers.specs.declared.EndSets.{EndSets}
 use Rattle.desk.specs.Calls.{CheckAnswer, EndSetsAnswer, endArrayBy, RestateAnswer}
-use Rattle.desk.specs.Demands.{SaysAccepted, Wrote, Demand1, Demand2, Demand3, AnswerDemand}
+use Rattle.desk.specs.Demands.{SaysAccepted, RestateWrote, Demand1, Demand2, Demand3, AnswerDemand}
 
 -- ---- the verdict behind an answer
 
@@ -58,7 +59,7 @@ says-accepted b r c acc = go r (c ∙ ap (readOutcome b) acc)
 
 restate-given : (b out left : List ℕ) (r : Answer) → RestateAnswer b out r left → Accepted b → length (restated b) ≤ length out
     → r ≡ Answer.Given (length (restated b))
-restate-given b out left r c acc long = is-given r (length (restated b)) (c .answer-told ∙ ap (values single) (given-long b (length out) acc long))
+restate-given b out left r c acc long = is-given r (length (restated b)) (c .answer-told ∙ ap (values oneValue) (given-long b (length out) acc long))
 
 check-or : (b : List ℕ) (r : Answer) → CheckAnswer b r → SizesOr (SheetRefusal b) r
 check-or b r c = sizes-or b (componentCount b) (actionCount b) (transitionsAt b) (stepsAt b) r c
@@ -69,6 +70,7 @@ writes b out left k c =
     let size : length (restated b) ≡ k = given-length b (length out) k told in
     (sym size, c .output-left ∙ given-output b out k told ∙ ap (λ (j : ℕ). restated b ++ drop j out) size)
 
+-- D1: a result, or the one refusal that is due; a refused call leaves the output as it came
 pub call-demand1 : Demand1
 call-demand1 =
     record {
@@ -83,18 +85,19 @@ call-demand1 =
       restate-serves = restate-given;
       restate-writes = writes;
       refused-untouched = λ b out left k i s c.
-          c .output-left ∙ output-laws .refused-untouched b out k i s (refused-only single (restating b (length out)) k i s (c .answer-told));
+          c .output-left ∙ output-laws .refused-untouched b out k i s (refused-only oneValue (restating b (length out)) k i s (c .answer-told));
     }
 
 -- ---- demand 2
 
-sets-at : (b : List ℕ) (r : EndSets) → EndSetsAnswer b r → Accepted b → (j : ℕ) → j < 16
+sets-at : (b : List ℕ) (r : EndSets) → EndSetsAnswer b r → Accepted b → (j : ℕ) → j < mostComponents
     → getD (r .sets) j 0 ≡ cond (ltb j (componentCount b)) (endSet b j) 0
 sets-at b r c acc j h =
     ap (λ (x : List ℕ). getD x j 0) (c .sets-told ∙ ap (λ (v : Verdict). endArrayBy v b) acc)
-    ∙ map-below-at (λ i. cond (ltb i (componentCount b)) (endSet b i) 0) 16 j h
+    ∙ map-below-at (λ i. cond (ltb i (componentCount b)) (endSet b i) 0) mostComponents j h
 
-sets-told : (b : List ℕ) (r : EndSets) → EndSetsAnswer b r → Accepted b → (j : ℕ) → j < componentCount b → j < 16 → getD (r .sets) j 0 ≡ endSet b j
+sets-told : (b : List ℕ) (r : EndSets) → EndSetsAnswer b r → Accepted b → (j : ℕ) → j < componentCount b → j < mostComponents
+    → getD (r .sets) j 0 ≡ endSet b j
 sets-told b r c acc j l h = sets-at b r c acc j h ∙ rw (ltb-true j (componentCount b) .1 l)
 
 picked : (b : List ℕ) (r : EndSets) → EndSetsAnswer b r → Accepted b → (w : List ℕ) → Linearization (actionSets b) w
@@ -108,6 +111,7 @@ picked b r c acc w z t =
       λ q j l. subst (λ (x : ℕ). member x (t j) ≡ true) (sym (same j l)) (exact .1 q j l),
     )
 
+-- D2: accepted exactly when the steps are a step execution in limits; the end sets pick exactly the states reached
 pub call-demand2 : Demand2
 call-demand2 =
     record {
@@ -126,20 +130,20 @@ given-accepted b size k e = go (verdict b) refl e
     go accepted q h = refl
     go (refused l j) q h = let z : _≡_ {A = ℕ} 0 1 = cc in absurd (omega arith)
 
-wrote-given : {b w : List ℕ} (o : Wrote b w) → restating b (length (o .lent)) ≡ given (o .count)
+wrote-given : {b w : List ℕ} (o : RestateWrote b w) → restating b (length (o .lent)) ≡ given (o .count)
 wrote-given {b} {w} o = number-only (restating b (length (o .lent))) (o .count) (o .call .answer-told)
 
-pub wrote-accepted : {b w : List ℕ} → Wrote b w → Accepted b
+pub wrote-accepted : {b w : List ℕ} → RestateWrote b w → Accepted b
 wrote-accepted {b} {w} o = given-accepted b (length (o .lent)) (o .count) (wrote-given o)
 
-pub wrote-restated : {b w : List ℕ} → Wrote b w → w ≡ restated b
+pub wrote-restated : {b w : List ℕ} → RestateWrote b w → w ≡ restated b
 wrote-restated {b} {w} o = o .bytes ∙ ap (take (o .count)) (o .call .output-left) ∙ given-written b (o .lent) (o .count) (wrote-given o)
 
 same-sets : (b : List ℕ) → Accepted b → (r s : EndSets) → EndSetsAnswer b r → EndSetsAnswer (restated b) s → s .sets ≡ r .sets
 same-sets b acc r s c d =
     d .sets-told ∙ ap (λ (v : Verdict). endArrayBy v (restated b)) (restated-laws .restated-related b acc .second-accepted)
-    ∙ map-below (λ j. cond (ltb j (componentCount (restated b))) (endSet (restated b) j) 0) (λ j. cond (ltb j (componentCount b)) (endSet b j) 0) 16
-    (λ j l. each j)
+    ∙ map-below (λ j. cond (ltb j (componentCount (restated b))) (endSet (restated b) j) 0) (λ j. cond (ltb j (componentCount b)) (endSet b j) 0)
+    mostComponents (λ j l. each j)
     ∙ sym (c .sets-told ∙ ap (λ (v : Verdict). endArrayBy v b) acc)
   where
     each : (j : ℕ) → cond (ltb j (componentCount (restated b))) (endSet (restated b) j) 0 ≡ cond (ltb j (componentCount b)) (endSet b j) 0
@@ -151,7 +155,7 @@ same-sets b acc r s c d =
         go true q = restated-laws .restated-ends b acc j (ltb-true j (componentCount b) .0 q)
         go false q = refl
 
-again : (b w out left : List ℕ) (r : Answer) → Wrote b w → RestateAnswer w out r left → length w ≤ length out
+again : (b w out left : List ℕ) (r : Answer) → RestateWrote b w → RestateAnswer w out r left → length w ≤ length out
     → (r ≡ Answer.Given (length w)) × (take (length w) left ≡ w)
 again b w out left r o c long =
     let same : restated w ≡ w = ap restated (wrote-restated o) ∙ restated-laws .restated-again b (wrote-accepted o) ∙ sym (wrote-restated o) in
@@ -162,6 +166,7 @@ again b w out left r o c long =
       ap (take (length w)) (c .output-left) ∙ given-written w out (length w) (told ∙ ap given size) ∙ same,
     )
 
+-- D3, whole (C5): of the bytes that calls of restate wrote
 pub call-demand3 : Demand3
 call-demand3 =
     record {
@@ -190,13 +195,14 @@ stuck-given : (b : List ℕ) → Accepted b → stuckOutcome b ≡ given (stuck 
 unfolding stuckOutcome
 stuck-given b acc = rw acc
 
-no-sets : (b : List ℕ) (r : EndSets) (k i s : ℕ) → EndSetsAnswer b r → SheetRefusal b k i s → r .sets ≡ replicate 16 0
+no-sets : (b : List ℕ) (r : EndSets) (k i s : ℕ) → EndSetsAnswer b r → SheetRefusal b k i s → r .sets ≡ replicate mostComponents 0
 no-sets b r k i s c p =
     elim p [
       | inl h ↦ c .sets-told ∙ ap (λ (v : Verdict). endArrayBy v b) (sym (refusal-laws .only-refusal b (refused k i) (h .0)))
       | inr h ↦ absurd (h .1)
     ]
 
+-- N7, E5, A4, A5: what the other calls answer
 pub answer-demand : AnswerDemand
 answer-demand =
     record {
@@ -204,6 +210,6 @@ answer-demand =
       offends-first = λ b r i c. Iff·trans (offence-exactly r (processCheck b) c (some i)) (answer-laws .offends-first b i);
       ends-told = sets-at;
       ends-refused = no-sets;
-      figure-told = λ b r c acc. is-given r (figure b) (c ∙ ap (values single) (figure-given b acc));
-      stuck-told = λ b r c acc. is-given r (bit (stuck b)) (c ∙ ap (values (λ t. single (bit t))) (stuck-given b acc));
+      figure-told = λ b r c acc. is-given r (figure b) (c ∙ ap (values oneValue) (figure-given b acc));
+      stuck-told = λ b r c acc. is-given r (bit (stuck b)) (c ∙ ap (values (λ t. oneValue (bit t))) (stuck-given b acc));
     }

@@ -1,9 +1,11 @@
--- An accepted sheet with the sizes that its trailer tells, and the bounds that follow: what an inner function is handed.
+-- An accepted sheet with the sizes that its trailer tells, and the bounds that follow: what an inner function is handed (N1, S6,
+-- L1 to L7).
 -- Assumes nothing.
 use mathlib.Core.Path.{_≡_}
 use mathlib.Core.List.{List}
 use Prim.Native.Nat.{ℕ, _+_, _*_, _≤_}
 use lib.ListN.{length}
+use Rattle.sheet.specs.Bounds.{recordSize, trailerSize, longest, mostComponents, mostActions}
 use Rattle.sheet.specs.Layout.{componentCount, actionCount, transitionsAt, stepsAt}
 use Rattle.sheet.specs.Verdict.{Accepted}
 use Rattle.answers.specs.declared.Sizes.{Sizes}
@@ -14,9 +16,9 @@ pub record AcceptedSheet (b : List ℕ) (z : Sizes) : Type 0 where
   pub m-read : z .m ≡ actionCount b
   pub t-read : z .t ≡ transitionsAt b
   pub s-read : z .s ≡ stepsAt b
-  pub n-high : z .n ≤ 16
-  pub m-high : z .m ≤ 64
-  pub t-next : z .t ≡ 16 * z .n
+  pub n-high : z .n ≤ mostComponents
+  pub m-high : z .m ≤ mostActions
+  pub t-next : z .t ≡ recordSize * z .n
   pub s-behind : z .t ≤ z .s
-  pub trailer-last : z .s + 10 ≤ length b
-  pub length-high : length b ≤ 16650
+  pub trailer-last : z .s + trailerSize ≤ length b
+  pub length-high : length b ≤ longest

@@ -14,20 +14,21 @@ use Rattle.traces.specs.Offences.{IsFirstOffence}
 use Rattle.systems.specs.Interleaving.{Global, Reaches}
 use Rattle.systems.specs.StepExecution.{Determinized, Linearization, Picked}
 use Rattle.systems.specs.Independence.{dependent}
+use Rattle.sheet.specs.Bounds.{mostComponents}
 use Rattle.sheet.specs.Layout.{componentCount, actionCount, transitionsAt, stepsAt, tables, stepCount, steps}
 use Rattle.sheet.specs.Limits.{InLimits}
 use Rattle.sheet.specs.Verdict.{Accepted}
 use Rattle.answers.specs.declared.Sizes.{Sizes}
 use Rattle.answers.specs.declared.Answer.{Answer}
 use Rattle.answers.specs.Outcomes.{bit}
-use Rattle.answers.specs.EndSets.{endSet}
+use Rattle.answers.specs.Ends.{endSet}
 use Rattle.answers.specs.Figure.{figure}
 use Rattle.answers.specs.Stuck.{stuck}
 use Rattle.answers.specs.FirstRefusal.{SheetRefusal, RestateRefusal, SizesOr, NumberOr}
 use Rattle.answers.specs.SheetExecution.{systemIn, actionSets, ExecutionTo, ProcessIn}
 use Rattle.answers.specs.Restated.{restatedSteps, restated}
 use Rattle.answers.specs.Related.{RelatedSheets}
-use Rattle.desk.specs.declared.verdict.EndSets.{EndSets}
+use Rattle.answers.specs.declared.EndSets.{EndSets}
 use Rattle.desk.specs.Calls.{CheckAnswer, EndSetsAnswer, ProcessAnswer, RestateAnswer, FigureAnswer, StuckAnswer}
 
 -- the answer says accepted
@@ -36,7 +37,7 @@ pub record SaysAccepted (r : Answer) : Type 0 where
   pub told : r ≡ Answer.Accepted sizes
 
 -- w is what a call of restate wrote for the sheet b
-pub record Wrote (b w : List ℕ) : Type 0 where
+pub record RestateWrote (b w : List ℕ) : Type 0 where
   pub lent : List ℕ
   pub left : List ℕ
   pub count : ℕ
@@ -51,14 +52,16 @@ pub record Demand1 : Type 0 where
   pub figure-answers : (b : List ℕ) (r : Answer) → FigureAnswer b r → NumberOr (SheetRefusal b) r
   pub stuck-answers : (b : List ℕ) (r : Answer) → StuckAnswer b r → NumberOr (SheetRefusal b) r
   pub restate-answers : (b out left : List ℕ) (r : Answer) → RestateAnswer b out r left → NumberOr (RestateRefusal b (length out)) r
-  -- the sizes
+  -- S6: the sizes
   pub sizes-told : (b : List ℕ) (z : Sizes) → CheckAnswer b (Answer.Accepted z)
       → (z .n ≡ componentCount b) × (z .m ≡ actionCount b) × (z .t ≡ transitionsAt b) × (z .s ≡ stepsAt b)
-  -- an output of exactly the length serves; the restated sheet then stands in front, and the bytes behind it keep their values
+  -- R13: an output of exactly the length serves
   pub restate-serves : (b out left : List ℕ) (r : Answer) → RestateAnswer b out r left → Accepted b → length (restated b) ≤ length out
       → r ≡ Answer.Given (length (restated b))
+  -- N9: the restated sheet then stands in front, and the bytes behind it keep their values
   pub restate-writes : (b out left : List ℕ) (k : ℕ) → RestateAnswer b out (Answer.Given k) left
       → (k ≡ length (restated b)) × (left ≡ restated b ++ drop k out)
+  -- O5: a refused call leaves the output as it came
   pub refused-untouched : (b out left : List ℕ) (k i s : ℕ) → RestateAnswer b out (Answer.Refused k i s) left → left ≡ out
 
 -- D2: accepted exactly when the steps are a step execution as published, within the limits; the end sets pick out exactly the global states
@@ -71,20 +74,20 @@ pub record Demand2 : Type 1 where
 
 -- D3, whole (C5): of the bytes that calls of restate wrote.
 pub record Demand3 : Type 1 where
-  pub written-accepted : (b w : List ℕ) → Wrote b w → Accepted b
-  -- restated as the same bytes exactly when swaps of independent neighbours turn one action list into the other, over the same tables
-  pub same-bytes : (b c w v : List ℕ) → Wrote b w → Wrote c v → (w ≡ v) ↔ RelatedSheets b c
+  pub written-accepted : (b w : List ℕ) → RestateWrote b w → Accepted b
+  -- N5: restated as the same bytes exactly when swaps of independent neighbours turn one action list into the other, over the same tables
+  pub same-bytes : (b c w v : List ℕ) → RestateWrote b w → RestateWrote c v → (w ≡ v) ↔ RelatedSheets b c
   -- what was written is accepted, over the same tables, related to its sheet, and a process execution
-  pub written-related : (b w : List ℕ) → Wrote b w → RelatedSheets b w
-  pub written-process : (b w : List ℕ) → Wrote b w → ProcessIn w
-  -- with the same end set for every component
-  pub written-ends : (b w : List ℕ) → Wrote b w → (r s : EndSets) → EndSetsAnswer b r → EndSetsAnswer w s → s .sets ≡ r .sets
+  pub written-related : (b w : List ℕ) → RestateWrote b w → RelatedSheets b w
+  pub written-process : (b w : List ℕ) → RestateWrote b w → ProcessIn w
+  -- E5: with the same end set for every component
+  pub written-ends : (b w : List ℕ) → RestateWrote b w → (r s : EndSets) → EndSetsAnswer b r → EndSetsAnswer w s → s .sets ≡ r .sets
   -- N10: no accepted sheet so related has fewer steps, counted in the bytes as written
-  pub fewest-steps : (b c w : List ℕ) → RelatedSheets b c → Wrote b w → stepCount w ≤ stepCount c
-  pub written-count : (b w : List ℕ) → Wrote b w → stepCount w ≡ length (restatedSteps b)
-  pub written-no-longer : (b w : List ℕ) → Wrote b w → length w ≤ length b
+  pub fewest-steps : (b c w : List ℕ) → RelatedSheets b c → RestateWrote b w → stepCount w ≤ stepCount c
+  pub written-count : (b w : List ℕ) → RestateWrote b w → stepCount w ≡ length (restatedSteps b)
+  pub written-no-longer : (b w : List ℕ) → RestateWrote b w → length w ≤ length b
   -- restating it again, into any output as long as it is, writes its own bytes
-  pub written-again : (b w out left : List ℕ) (r : Answer) → Wrote b w → RestateAnswer w out r left → length w ≤ length out
+  pub written-again : (b w out left : List ℕ) (r : Answer) → RestateWrote b w → RestateAnswer w out r left → length w ≤ length out
       → (r ≡ Answer.Given (length w)) × (take (length w) left ≡ w)
 
 -- What the other calls answer for an accepted sheet.
@@ -93,10 +96,12 @@ pub record AnswerDemand : Type 1 where
   pub process-exactly : (b : List ℕ) (r : Answer) → ProcessAnswer b r → (r ≡ Answer.Given 0) ↔ (Accepted b × ProcessIn b)
   pub offends-first : (b : List ℕ) (r : Answer) (i : ℕ) → ProcessAnswer b r
       → (r ≡ Answer.Given (i + 1)) ↔ (Accepted b × IsFirstOffence (dependent (tables b)) (map members (steps b)) i)
-  -- sixteen end sets, 0 for a component that the sheet does not have; all 0 for a refused sheet
-  pub ends-told : (b : List ℕ) (r : EndSets) → EndSetsAnswer b r → Accepted b → (j : ℕ) → j < 16
+  -- E5: sixteen end sets, 0 for a component that the sheet does not have; all 0 for a refused sheet
+  pub ends-told : (b : List ℕ) (r : EndSets) → EndSetsAnswer b r → Accepted b → (j : ℕ) → j < mostComponents
       → getD (r .sets) j 0 ≡ cond (ltb j (componentCount b)) (endSet b j) 0
-  pub ends-refused : (b : List ℕ) (r : EndSets) (k i s : ℕ) → EndSetsAnswer b r → SheetRefusal b k i s → r .sets ≡ replicate 16 0
+  pub ends-refused : (b : List ℕ) (r : EndSets) (k i s : ℕ) → EndSetsAnswer b r → SheetRefusal b k i s
+      → r .sets ≡ replicate mostComponents 0
+  -- A4: the figure
   pub figure-told : (b : List ℕ) (r : Answer) → FigureAnswer b r → Accepted b → r ≡ Answer.Given (figure b)
-  -- 1 for stuck, else 0
+  -- A5: 1 for stuck, else 0
   pub stuck-told : (b : List ℕ) (r : Answer) → StuckAnswer b r → Accepted b → r ≡ Answer.Given (bit (stuck b))

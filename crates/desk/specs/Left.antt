@@ -1,4 +1,4 @@
--- What inner functions answer, and leave in the arrays that are lent to them.
+-- What inner functions answer, and leave in the arrays that are lent to them. They carry out O1, E5 and N8.
 -- Assumes nothing.
 use mathlib.Core.Path.{_≡_}
 use mathlib.Core.Bool.{cond}
@@ -6,6 +6,7 @@ use mathlib.Core.List.{List}
 use Prim.Native.Nat.{ℕ, _<_, _≤_}
 use lib.Dec.{ltb}
 use lib.ListN.{length, take, getD}
+use Rattle.sheet.specs.Bounds.{mostComponents, mostSteps}
 use Rattle.sheet.specs.Layout.{componentCount, tables}
 use Rattle.sheet.specs.Verdict.{verdict, Accepted}
 use Rattle.dependence.specs.participants.Participants.{Participants}
@@ -13,32 +14,32 @@ use Rattle.answers.specs.declared.Sizes.{Sizes}
 use Rattle.answers.specs.declared.Answer.{Answer}
 use Rattle.answers.specs.declared.Answer.the-variants.{Accepted as AcceptedAnswer, Given, Refused}
 use Rattle.answers.specs.Outcomes.{outcomeOf, readOutcome}
-use Rattle.answers.specs.EndSets.{endSet}
+use Rattle.answers.specs.Ends.{endSet}
 use Rattle.answers.specs.Restated.{restatedSteps}
 
--- the set with index j of a list where j is below n, else the empty set
+-- E5: the set with index j of a list where j is below n, else the empty set
 abbrev pub setBelow : List ℕ → ℕ → ℕ → ℕ
 setBelow l n j = cond (ltb j n) (getD l j 0) 0
 
--- the refusal of an answer, or the sizes where it is none
+-- O1, S6: the refusal of an answer, or the sizes where it is none
 abbrev pub refusalOrSizes : Answer → Sizes → Answer
 refusalOrSizes (AcceptedAnswer y) z = AcceptedAnswer z
 refusalOrSizes (Given x) z = AcceptedAnswer z
 refusalOrSizes (Refused k i s) z = Refused k i s
 
--- the answer on the sheet b, and the array afterwards: of an accepted sheet its first sets are the end sets
+-- O1, E5: the answer on the sheet b, and the array afterwards: of an accepted sheet its first sets are the end sets
 pub record EndsLeft (b : List ℕ) (r : Answer) (held : List ℕ) : Type 0 where
-  pub size : length held ≡ 16
+  pub size : length held ≡ mostComponents
   pub answer-told : outcomeOf r ≡ readOutcome b (verdict b)
   pub ends : Accepted b → (j : ℕ) → j < componentCount b → getD held j 0 ≡ endSet b j
 
--- of an accepted sheet the array has the components of each action
+-- N3: of an accepted sheet the array has the components of each action
 abbrev pub ParticipantsLeft : List ℕ → List ℕ → Type 0
 ParticipantsLeft b l = Accepted b → Participants (tables b) l
 
--- the array's first `count` entries are the restated steps of the sheet b
+-- N8: the array's first `count` entries are the restated steps of the sheet b
 pub record PackedSteps (b packed : List ℕ) (count : ℕ) : Type 0 where
-  pub size : length packed ≡ 1024
+  pub size : length packed ≡ mostSteps
   pub counted : count ≡ length (restatedSteps b)
-  pub few : count ≤ 1024
+  pub few : count ≤ mostSteps
   pub sets : take count packed ≡ restatedSteps b

@@ -1,6 +1,7 @@
 // The alphabets of a sheet.
 ghost use mathlib.Core.Path.{_≡_};
 ghost use lib.ListN.{length};
+ghost use Rattle.sheet.specs.Bounds.{mostComponents};
 ghost use Rattle.sheet.specs.Layout.{tables};
 ghost use Rattle.sheet.specs.Sections.{Alphabets};
 ghost use Rattle.desk.specs.AcceptedSheet.{AcceptedSheet};
@@ -8,7 +9,7 @@ use answers::Sizes;
 
 // Puts the alphabets of an accepted sheet into `found`.
 pub fn alphabets_of(sheet: &[u8], sizes: Sizes, found: &mut [u64])
-    requires { ⌜ AcceptedSheet (now sheet) sizes × (length (now found) ≡ 16) ⌝ }
+    requires { ⌜ AcceptedSheet (now sheet) sizes × (length (now found) ≡ mostComponents) ⌝ }
     ensures { λ _. ⌜ Alphabets (tables (now (sheet .entry))) (sizes .n) (now (found .exit)) ⌝ }
 {
     let t = sizes.t;

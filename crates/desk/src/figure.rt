@@ -2,6 +2,7 @@
 ghost use mathlib.Core.Path.{_≡_};
 ghost use Prim.Native.Nat.{_≤_};
 ghost use lib.ListN.{length};
+ghost use Rattle.sheet.specs.Bounds.{mostSteps, mostInSteps};
 ghost use Rattle.answers.specs.Restated.{restatedSteps};
 ghost use Rattle.answers.specs.Figure.{quotient, figure};
 ghost use Rattle.desk.specs.AcceptedSheet.{AcceptedSheet};
@@ -13,7 +14,7 @@ use answers::Sizes;
 
 // A4: ten times the actions over the steps, rounded to a whole number, a half upwards; 0 without steps.
 fn rounded_quotient(actions: u64, steps: u64) -> u64
-    requires { ⌜ (actions ≤ 1024) × (steps ≤ 1024) ⌝ }
+    requires { ⌜ (actions ≤ mostInSteps) × (steps ≤ mostSteps) ⌝ }
     ensures { λ r. ⌜ r ≡ quotient actions steps ⌝ }
 {
     if steps == 0 {
@@ -24,7 +25,7 @@ fn rounded_quotient(actions: u64, steps: u64) -> u64
 
 // The figure of an accepted sheet that has `count` restated steps.
 pub fn figure_with(sheet: &[u8], sizes: Sizes, count: usize) -> u64
-    requires { ⌜ AcceptedSheet (now sheet) sizes × (count ≤ 1024) × (count ≡ length (restatedSteps (now sheet))) ⌝ }
+    requires { ⌜ AcceptedSheet (now sheet) sizes × (count ≤ mostSteps) × (count ≡ length (restatedSteps (now sheet))) ⌝ }
     ensures { λ r. ⌜ r ≡ figure (now (sheet .entry)) ⌝ }
 {
     let section = reading::step_section(sheet, sizes.s);

@@ -1,6 +1,7 @@
 // A sheet restated in normal form: its restated steps packed, and the sheet with them written into lent bytes.
 ghost use mathlib.Core.Path.{_≡_};
 ghost use lib.ListN.{replicate};
+ghost use Rattle.sheet.specs.Bounds.{mostSteps};
 ghost use Rattle.desk.specs.AcceptedSheet.{AcceptedSheet};
 ghost use Rattle.desk.specs.Left.{ParticipantsLeft, PackedSteps};
 ghost use Rattle.desk.specs.Calls.{RestateAnswer};
@@ -13,7 +14,8 @@ use dependence::participants;
 // Packs the steps of an accepted sheet into `packed`, which comes with zeros, by the components of each action, and gives back how many
 // restated steps there are.
 fn pack_steps(sheet: &[u8], sizes: Sizes, participants: &[u64], packed: &mut [u64]) -> usize
-    requires { ⌜ AcceptedSheet (now sheet) sizes × ParticipantsLeft (now sheet) (now participants) × (now packed ≡ replicate 1024 0) ⌝ }
+    requires { ⌜ AcceptedSheet (now sheet) sizes × ParticipantsLeft (now sheet) (now participants)
+        × (now packed ≡ replicate mostSteps 0) ⌝ }
     ensures { λ r. ⌜ PackedSteps (now (sheet .entry)) (now (packed .exit)) r ⌝ }
 {
     normal_form::pack(reading::step_section(sheet, sizes.s), participants, packed)
@@ -21,7 +23,7 @@ fn pack_steps(sheet: &[u8], sizes: Sizes, participants: &[u64], packed: &mut [u6
 
 // The same where the components of each action are still to be found.
 pub fn pack_sheet(sheet: &[u8], sizes: Sizes, packed: &mut [u64]) -> usize
-    requires { ⌜ AcceptedSheet (now sheet) sizes × (now packed ≡ replicate 1024 0) ⌝ }
+    requires { ⌜ AcceptedSheet (now sheet) sizes × (now packed ≡ replicate mostSteps 0) ⌝ }
     ensures { λ r. ⌜ PackedSteps (now (sheet .entry)) (now (packed .exit)) r ⌝ }
 {
     let mut alphabets = [0u64; 16];

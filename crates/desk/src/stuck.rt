@@ -17,7 +17,7 @@ pub fn stuck_at(sheet: &[u8], sizes: Sizes, sets: &[u64]) -> bool
     let s = sizes.s;
     let mut alphabets = [0u64; 16];
     alphabets::alphabets_of(sheet, sizes, &mut alphabets);
-    machine::stuck_from(&sheet[..s], sizes.n, sizes.m, &alphabets, sets)
+    machine::stuck_from(&sheet[..s], sizes, &alphabets, sets)
 }
 
 // 1 for a stuck sheet, 0 for one that is not.

@@ -8,13 +8,8 @@ ghost use Rattle.reading.specs.Reading.{TrailerPassed};
 ghost use Rattle.desk.specs.Calls.{CheckAnswer, EndSetsAnswer};
 ghost use Rattle.desk.specs.Left.{setBelow, refusalOrSizes, EndsLeft, ParticipantsLeft};
 use answers::Answer;
+use answers::EndSets;
 use answers::Sizes;
-
-// The answer on a sheet, and for an accepted one the end set of each component.
-pub struct EndSets {
-    pub answer: Answer,
-    pub sets: [u64; 16],
-}
 
 // The refusal of an answer, or the sizes. It is taken apart and put together: copied as a whole, an answer just written is waited for.
 fn refusal_or_sizes(answer: Answer, sizes: Sizes) -> Answer
@@ -52,16 +47,14 @@ pub fn judge_tables(
         return read;
     };
     let s = sizes.s;
-    let ran = machine::run_from_start(
+    machine::run_from_start(
         &sheet[..s],
         reading::step_section(sheet, s),
-        sizes.n,
-        sizes.m,
+        sizes,
         &alphabets,
         participants,
         held,
-    );
-    refusal_or_sizes(ran, sizes)
+    )
 }
 
 // The verdict on a sheet. Of an accepted sheet the first sets held are the end sets of its components. The sheet is handed on as a part,

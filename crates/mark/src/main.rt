@@ -8,14 +8,14 @@ ghost use mathlib.Core.Path.{_≡_};
 ghost use Prim.Native.Nat.{_≤_};
 ghost use lib.ListN.{length, take};
 ghost use Rattle.io.specs.Counts.{Counts};
-ghost use Rattle.answers.specs.Report.{report};
+ghost use Rattle.answers.specs.Report.{report, reportRoom};
 use oatmist::Answer;
 use stream::Input;
 
 // Puts what is to be written into the front of the text: the report of the first n bytes of the buffer, which are what was read. Answers
 // how many bytes that is.
 fn put_report(n: usize, sheet: &[u8], text: &mut [u8]) -> usize
-    requires { ⌜ (n ≤ length (now sheet)) × (16384 ≤ length (now text)) ⌝ }
+    requires { ⌜ (n ≤ length (now sheet)) × (reportRoom ≤ length (now text)) ⌝ }
     ensures { λ r. ⌜ Counts r (now (text .exit)) ⌝ }
     ensures { λ r. ⌜ take r (now (text .exit)) ≡ report (take n (now (sheet .entry))) ⌝ }
 {

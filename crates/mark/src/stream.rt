@@ -2,7 +2,7 @@
 // made again; any other failure ends the work, and errno then has its reason.
 ghost use lib.ListN.{length};
 ghost use Rattle.libc.specs.Io.{Moved, Status};
-ghost use Rattle.mark.specs.Inputs.{Within};
+ghost use Rattle.mark.specs.Inputs.{ReadAtMost};
 
 // What came of reading to the end: so many bytes stand in front of the buffer; or a read failed.
 pub enum Input {
@@ -65,7 +65,7 @@ fn write_some(fd: i32, text: &[u8]) -> isize
 
 // Reads until the input ends or the buffer is full.
 pub fn read_to_end(fd: i32, buf: &mut [u8]) -> Input
-    ensures { λ r. ⌜ Within (length (now (buf .entry))) r ⌝ }
+    ensures { λ r. ⌜ ReadAtMost (length (now (buf .entry))) r ⌝ }
 {
     let mut done = 0;
     while done < buf.len() {

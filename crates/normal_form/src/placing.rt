@@ -4,6 +4,7 @@ ghost use mathlib.Core.List.{[], _∷_};
 ghost use Prim.Native.Nat.{_<_};
 ghost use lib.ListN.{length};
 ghost use Rattle.sets.specs.Bits.{members};
+ghost use Rattle.sheet.specs.Bounds.{mostComponents, mostActions, mostSteps};
 ghost use Rattle.dependence.specs.participants.Participants.{OfSixteen};
 ghost use Rattle.normal_form.specs.levels.Levels.{Room};
 ghost use Rattle.normal_form.specs.placing.Placing.{PlacesWord};
@@ -18,8 +19,8 @@ fn place(
     last: &mut [usize],
     packed: &mut [u64],
 ) -> usize
-    requires { ⌜ OfSixteen (now participants) × (length (now last) ≡ 16) × (length (now packed) ≡ 1024)
-        × (a < 64) × Room (now last) 1 ⌝ }
+    requires { ⌜ OfSixteen (now participants) × (length (now last) ≡ mostComponents) × (length (now packed) ≡ mostSteps)
+        × (a < mostActions) × Room (now last) 1 ⌝ }
     ensures { λ r. ⌜ PlacesWord (now (participants .entry)) (a ∷ []) (now (last .entry)) (now (packed .entry)) count
         (now (last .exit)) (now (packed .exit)) r ⌝ }
 {
@@ -38,7 +39,7 @@ pub fn place_step(
     last: &mut [usize],
     packed: &mut [u64],
 ) -> usize
-    requires { ⌜ OfSixteen (now participants) × (length (now last) ≡ 16) × (length (now packed) ≡ 1024)
+    requires { ⌜ OfSixteen (now participants) × (length (now last) ≡ mostComponents) × (length (now packed) ≡ mostSteps)
         × Room (now last) (length (members step)) ⌝ }
     ensures { λ r. ⌜ PlacesWord (now (participants .entry)) (members step) (now (last .entry)) (now (packed .entry)) count
         (now (last .exit)) (now (packed .exit)) r ⌝ }

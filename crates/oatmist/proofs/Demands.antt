@@ -10,8 +10,8 @@ use Rattle.traces.specs.Offences.{offending}
 use Rattle.sheet.specs.Layout.{componentCount, actionCount, transitionsAt, stepsAt}
 use Rattle.sheet.specs.Verdict.{Verdict, verdict}
 use Rattle.answers.specs.declared.Answer.{Answer}
-use Rattle.answers.specs.Outcomes.{Outcome, given, refused, values, single, bit, outcomeOf, after, sizesOf, readOutcome}
-use Rattle.answers.specs.EndSets.{endArray, endsOutcome}
+use Rattle.answers.specs.Outcomes.{Outcome, given, refused, values, oneValue, bit, outcomeOf, after, sizesOf, readOutcome}
+use Rattle.answers.specs.Ends.{endArray, endsOutcome}
 use Rattle.answers.specs.ProcessCheck.{processCheck}
 use Rattle.answers.specs.Figure.{figureOutcome}
 use Rattle.answers.specs.Stuck.{stuckOutcome}
@@ -25,7 +25,7 @@ use Rattle.answers.proofs.FirstRefusal.{ends-refuse, process-refuses, figure-re
 use Rattle.answers.proofs.Laws.{output-laws}
 use Rattle.report.specs.Calls.{ReportAnswer}
 use Rattle.report.proofs.Demands.{refused-left}
-use Rattle.desk.specs.declared.verdict.EndSets.{EndSets}
+use Rattle.answers.specs.declared.EndSets.{EndSets}
 use Rattle.desk.specs.Calls.{EndSetsAnswer, endArrayBy, ProcessAnswer, RestateAnswer, FigureAnswer, StuckAnswer}
 use Rattle.comparing.specs.Calls.{SameWorkAnswer, WinnerAnswer}
 use Rattle.oatmist.specs.Convention.{withValues, Packable, CAnswer}
@@ -121,12 +121,12 @@ where-refused f (given x) r old new c n X h = absurd (n (c .0))
 where-refused f (refused k i s) r old new c n X h = h k i s refl
 
 -- a call that gives one number
-number-to-c : {A : Type 0} (number : A → ℕ) (P : Refusal) (o : Outcome A) → RefusesBy P o → Packable (values (λ (x : A). single (number x)) o)
-    → (Q : Answer → Type 0) → ((a : Answer) → outcomeOf a ≡ values (λ (x : A). single (number x)) o → Q a)
-    → (r : ℕ) (old new : List ℕ) → CAnswer (values (λ (x : A). single (number x)) o) r old new → ToldToC P (Number Q) r old new
+number-to-c : {A : Type 0} (number : A → ℕ) (P : Refusal) (o : Outcome A) → RefusesBy P o → Packable (values (λ (x : A). oneValue (number x)) o)
+    → (Q : Answer → Type 0) → ((a : Answer) → outcomeOf a ≡ values (λ (x : A). oneValue (number x)) o → Q a)
+    → (r : ℕ) (old new : List ℕ) → CAnswer (values (λ (x : A). oneValue (number x)) o) r old new → ToldToC P (Number Q) r old new
 number-to-c {A} number P o due fits Q told =
-    told-to-c (λ (x : A). single (number x)) P (Number Q) o due
-    (λ x e. (number x, told (Answer.Given (number x)) (ap (values (λ (y : A). single (number y))) (sym e)), refl)) fits
+    told-to-c (λ (x : A). oneValue (number x)) P (Number Q) o due
+    (λ x e. (number x, told (Answer.Given (number x)) (ap (values (λ (y : A). oneValue (number y))) (sym e)), refl)) fits
 
 -- a call that gives a list
 list-to-c : (P : Refusal) (Values : List ℕ → Type 0) (o : Outcome (List ℕ)) → RefusesBy P o → Packable o
@@ -160,6 +160,7 @@ ends-to-c b old new r c =
         let e = ended b (h .0) in
         (e .0, e .1, h .1 ∙ e .2)
 
+-- D1, O4, O5: C is told what each call from Rattle answers; so D2 and D3 hold of what it is told
 pub demands-for-c : DemandsForC
 demands-for-c =
     record {
@@ -186,10 +187,10 @@ demands-for-c =
           (packable-report b (length out)) (λ a. ReportAnswer b out a left) (λ a e. record { answer-told = e; output-left = c .output-left })
           r old new (c .answer-told);
       restate-untouched = λ b out left old new r c n.
-          where-refused single (restating b (length out)) r old new (c .answer-told) n (left ≡ out)
+          where-refused oneValue (restating b (length out)) r old new (c .answer-told) n (left ≡ out)
           (λ k i s e. c .output-left ∙ output-laws .refused-untouched b out k i s e);
       report-untouched = λ b out left old new r c n.
-          where-refused single (reporting b (length out)) r old new (c .answer-told) n (left ≡ out)
+          where-refused oneValue (reporting b (length out)) r old new (c .answer-told) n (left ≡ out)
           (λ k i s e. c .output-left ∙ refused-left b out k i s e);
       leaner = λ b c part h. h;
       worked = (λ z. absurd (omega arith), refl, refl, refl);

@@ -1,4 +1,4 @@
--- Every refusal of a call fits into one number: its number is at most 14, its sheet 0 or 1, its step index below the number of steps.
+-- O4, O7: every refusal of a call fits into one number: it is at most 14, its sheet 0 or 1, its step index below the number of steps.
 -- Assumes nothing.
 use mathlib.Core.Path.{_≡_, refl, sym, subst}
 use mathlib.Core.Bool.{Bool, true, false, cond}
@@ -10,14 +10,15 @@ use lib.ListN.{length}
 use Rattle.sets.specs.Bits.{members}
 use Rattle.traces.specs.Offences.{firstOffence, offending}
 use Rattle.systems.specs.Independence.{dependent}
+use Rattle.sheet.specs.Bounds.{longest}
 use Rattle.sheet.specs.Layout.{tables, stepCount, steps}
-use Rattle.sheet.specs.Refusals.{sameBytes, lengthWrong, refusal}
+use Rattle.sheet.specs.Refusals.{sameNumbers, lengthWrong, refusal}
 use Rattle.sheet.specs.Verdict.{Verdict, accepted, refused, verdict, IsVerdict, sheet-refused, step-refused, all-passed}
 use Rattle.sheet.proofs.Limits.{length-right}
 use Rattle.sheet.proofs.RoundTrip.{steps-length}
 use Rattle.sheet.proofs.Verdicts.{verdict-first, verdict-number}
 use Rattle.answers.specs.declared.Answer.{Answer}
-use Rattle.answers.specs.Outcomes.{Outcome, given, values, single, bit, outcomeOf, onSheet, after}
+use Rattle.answers.specs.Outcomes.{Outcome, given, values, oneValue, bit, outcomeOf, onSheet, after}
 use Rattle.answers.specs.LentOutput.{unlessShort, lengthOr13}
 use Rattle.answers.specs.ProcessCheck.{processCheck}
 use Rattle.answers.specs.Restated.{restatedSteps, restated}
@@ -38,10 +39,10 @@ step-count-high : (b : List ℕ) → stepCount b ≤ length b
 unfolding stepCount
 step-count-high b = omega arith
 
-verdict-small : (b : List ℕ) (k i : ℕ) → verdict b ≡ refused k i → (1 ≤ k) × (k ≤ 12) × (i ≤ 16650)
+verdict-small : (b : List ℕ) (k i : ℕ) → verdict b ≡ refused k i → (1 ≤ k) × (k ≤ 12) × (i ≤ longest)
 verdict-small b k i e = let n = verdict-number b k i e in (n .0, n .1, go (verdict-first b) e)
   where
-    go : {v : Verdict} → IsVerdict b v → v ≡ refused k i → i ≤ 16650
+    go : {v : Verdict} → IsVerdict b v → v ≡ refused k i → i ≤ longest
     go (sheet-refused l h before) q = let z : 0 ≡ i = cc in omega arith
     go (step-refused f passed f-first) q =
         let j : f .index ≡ i = cc in
@@ -91,33 +92,34 @@ packable-read b x = go (verdict b) refl
 
 -- ---- the outcome of each call
 
-pub packable-process : (b : List ℕ) → Packable (values (λ o. single (offending o)) (processCheck b))
+pub packable-process : (b : List ℕ) → Packable (values (λ o. oneValue (offending o)) (processCheck b))
 unfolding processCheck
-packable-process b = packable-after (λ o. single (offending o)) b (firstOffence (dependent (tables b)) (map members (steps b)))
+packable-process b = packable-after (λ o. oneValue (offending o)) b (firstOffence (dependent (tables b)) (map members (steps b)))
 
-pub packable-restate : (b : List ℕ) (size : ℕ) → Packable (values single (restating b size))
+pub packable-restate : (b : List ℕ) (size : ℕ) → Packable (values oneValue (restating b size))
 unfolding restating
-packable-restate b size = packable-on single 0 (omega arith) b (lengthOr13 (restated b) size) (packable-fitting single (restated b) size)
+packable-restate b size =
+    packable-on oneValue 0 (omega arith) b (lengthOr13 (restated b) size) (packable-fitting oneValue (restated b) size)
 
-pub packable-figure : (b : List ℕ) → Packable (values single (figureOutcome b))
+pub packable-figure : (b : List ℕ) → Packable (values oneValue (figureOutcome b))
 unfolding figureOutcome
-packable-figure b = packable-after single b (figure b)
+packable-figure b = packable-after oneValue b (figure b)
 
-pub packable-stuck : (b : List ℕ) → Packable (values (λ t. single (bit t)) (stuckOutcome b))
+pub packable-stuck : (b : List ℕ) → Packable (values (λ t. oneValue (bit t)) (stuckOutcome b))
 unfolding stuckOutcome
-packable-stuck b = packable-after (λ t. single (bit t)) b (stuck b)
+packable-stuck b = packable-after (λ t. oneValue (bit t)) b (stuck b)
 
-pub packable-report : (b : List ℕ) (size : ℕ) → Packable (values single (reporting b size))
+pub packable-report : (b : List ℕ) (size : ℕ) → Packable (values oneValue (reporting b size))
 unfolding reporting
-packable-report b size = packable-fitting single (report b) size
+packable-report b size = packable-fitting oneValue (report b) size
 
-pub packable-work : (b c : List ℕ) → Packable (values (λ t. single (bit t)) (sameWork b c))
+pub packable-work : (b c : List ℕ) → Packable (values (λ t. oneValue (bit t)) (sameWork b c))
 unfolding sameWork
-packable-work b c = packable-two (λ t. single (bit t)) b c (sameBytes (restatedSteps b) (restatedSteps c))
+packable-work b c = packable-two (λ t. oneValue (bit t)) b c (sameNumbers (restatedSteps b) (restatedSteps c))
 
-pub packable-winner : (b c : List ℕ) → Packable (values single (winner b c))
+pub packable-winner : (b c : List ℕ) → Packable (values oneValue (winner b c))
 unfolding winner
-packable-winner b c = packable-two single b c (cond (ltb (length (restatedSteps c)) (length (restatedSteps b))) 1 0)
+packable-winner b c = packable-two oneValue b c (cond (ltb (length (restatedSteps c)) (length (restatedSteps b))) 1 0)
 
 -- ---- an answer told as an equal outcome
 

@@ -1,4 +1,4 @@
--- An output of 16,384 bytes or more: what the report answers is the length of the text, and the text stands in front of the output.
+-- P1: an output of 16,384 bytes or more: what the report answers is the length of the text, and the text stands in front of the output.
 -- Assumes nothing.
 use mathlib.Core.Path.{_≡_, sym, ap, _∙_, subst}
 use mathlib.Core.List.{List, _++_}
@@ -6,14 +6,14 @@ use Prim.Native.Nat.{ℕ, _≤_}
 use native.Mathlib.Omega.{arith}
 use lib.ListN.{length, take, drop, length-append}
 use Rattle.answers.specs.declared.Answer.{Answer}
-use Rattle.answers.specs.Outcomes.{given, single, outcomeOf}
-use Rattle.answers.specs.Report.{report}
+use Rattle.answers.specs.Outcomes.{given, oneValue, outcomeOf}
+use Rattle.answers.specs.Report.{report, reportRoom}
 use Rattle.answers.proofs.LentOutput.{output-front}
 use Rattle.report.specs.Calls.{ReportAnswer}
 use Rattle.report.proofs.Demands.{report-demand}
 
-module _ {b out after : List ℕ} {r : Answer} (A : ReportAnswer b out r after) (room : 16384 ≤ length out) where
-  pub length-given : outcomeOf r ≡ given (single (length (report b)))
+module _ {b out after : List ℕ} {r : Answer} (A : ReportAnswer b out r after) (room : reportRoom ≤ length out) where
+  pub length-given : outcomeOf r ≡ given (oneValue (length (report b)))
   length-given = ap outcomeOf (report-demand .report-serves b out after r A room)
 
   written : (k : ℕ) → r ≡ Answer.Given k → (k ≡ length (report b)) × (after ≡ report b ++ drop k out)

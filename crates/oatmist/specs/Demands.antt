@@ -9,7 +9,7 @@ use lib.ListN.{length, getD}
 use Rattle.sheet.specs.Layout.{componentCount, actionCount, transitionsAt, stepsAt}
 use Rattle.answers.specs.declared.Answer.{Answer}
 use Rattle.answers.specs.FirstRefusal.{Refusal, SheetRefusal, RestateRefusal, ReportRefusal, TwoSheetRefusal}
-use Rattle.desk.specs.declared.verdict.EndSets.{EndSets}
+use Rattle.answers.specs.declared.EndSets.{EndSets}
 use Rattle.desk.specs.Calls.{EndSetsAnswer, ProcessAnswer, RestateAnswer, FigureAnswer, StuckAnswer}
 use Rattle.comparing.specs.Calls.{SameWorkAnswer, WinnerAnswer, LeanerPart}
 use Rattle.report.specs.Calls.{ReportAnswer}
@@ -25,7 +25,7 @@ pub record InFront (xs old new : List ℕ) : Type 0 where
   pub front : (j : ℕ) → j < length xs → j < length old → getD new j 0 ≡ getD xs j 0
   pub behind : (j : ℕ) → length xs ≤ j → getD new j 0 ≡ getD old j 0
 
--- C is told the refusal that is due, and then the array is as it came; or 0 and the values that are due
+-- D1, O4, O5: C is told the refusal that is due, and then the array is as it came; or 0 and the values that are due
 pub record ToldToC (P : Refusal) (Values : List ℕ → Type 0) (r : ℕ) (old new : List ℕ) : Type 0 where
   pub zero-exactly : (r ≡ 0) ↔ ((k i s : ℕ) → ¬ P k i s)
   pub refused-exactly : (k i s : ℕ) → ReadsAs r k i s ↔ P k i s
@@ -36,6 +36,7 @@ pub record ToldToC (P : Refusal) (Values : List ℕ → Type 0) (r : ℕ) (old n
 abbrev pub Number : (Answer → Type 0) → List ℕ → Type 0
 Number P xs = (x : ℕ) × P (Answer.Given x) × (xs ≡ x ∷ [])
 
+-- D1, O4, O5: C is told what each call from Rattle answers; so D2 and D3 hold of what it is told
 pub record DemandsForC : Type 0 where
   -- n, m, T and S, in this order
   pub check : (b old new : List ℕ) (r : ℕ) → CheckForC b r old new

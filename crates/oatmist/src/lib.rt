@@ -4,6 +4,7 @@ mod convention;
 
 ghost use Rattle.oatmist.specs.Calls.{CheckForC, EndSetsForC, ProcessForC, FigureForC, StuckForC, RestateForC, ReportForC, SameWorkForC, WinnerForC, LeanerForC};
 pub use answers::Answer;
+pub use answers::EndSets;
 pub use answers::Sizes;
 pub use comparing::leaner;
 pub use comparing::same_work;

@@ -1,4 +1,4 @@
--- What is known of a sheet whose trailer passed: its sizes, and the bounds that follow.
+-- R1 to R4: what is known of a sheet whose trailer passed: its sizes, and the bounds that follow.
 -- Assumes nothing.
 use mathlib.Core.Path.{_≡_, refl}
 use mathlib.Core.Bool.{Bool, true, false}
@@ -6,6 +6,7 @@ use mathlib.Core.List.{List}
 use Prim.Native.Nat.{ℕ, _+_, _*_, _≤_}
 use native.Mathlib.Omega.{arith}
 use lib.ListN.{length}
+use Rattle.sheet.specs.Bounds.{recordSize, mostComponents, mostActions}
 use Rattle.sheet.specs.Layout.{transitionsAt, stepsAt, componentCount, actionCount}
 use Rattle.sheet.specs.Refusals.{lengthWrong, markWrong, countsWrong, offsetsWrong}
 use Rattle.sheet.specs.Verdict.{Verdict, accepted, refuseIf, trailerVerdict}
@@ -37,9 +38,9 @@ pub record TrailerRead (b : List ℕ) (z : Sizes) : Type 0 where
   pub t-read : z .t ≡ transitionsAt b
   pub s-read : z .s ≡ stepsAt b
   pub n-low : 1 ≤ z .n
-  pub n-high : z .n ≤ 16
-  pub m-high : z .m ≤ 64
-  pub t-next : z .t ≡ 16 * z .n
+  pub n-high : z .n ≤ mostComponents
+  pub m-high : z .m ≤ mostActions
+  pub t-next : z .t ≡ recordSize * z .n
   pub s-behind : z .t ≤ z .s
   pub trailer-last : z .s + 10 ≤ length b
   pub steps-fit : length b ≤ z .s + 8202

@@ -1,4 +1,4 @@
--- The sections of a sheet whose trailer passed: what a checker answers of a part is what the refusal says of the sheet.
+-- R5 to R9: the sections of a sheet whose trailer passed: what a checker answers of a part is what the refusal says of the sheet.
 -- Assumes nothing.
 use mathlib.Core.Path.{_≡_, refl, sym, ap, ap₂, _∙_}
 use mathlib.Core.Logic.{_⊎_, inl, inr}
@@ -14,6 +14,7 @@ use Rattle.sets.proofs.Bools.{true-or-false, leb-false}
 use Rattle.sets.proofs.Lists.{mem-below}
 use Rattle.systems.specs.Tables.{Transition, Tables}
 use Rattle.systems.specs.Checking.{flat}
+use Rattle.sheet.specs.Bounds.{stepSize, mostSteps, mostInSteps, recordSize}
 use Rattle.sheet.specs.Numbers.{number, field, parts}
 use Rattle.sheet.specs.Layout.{componentCount, front, statesOf, fillerOf, initialOf, alphabetOf, transitionBytes, transitionOf, tablesOf, tables, stepCount, steps}
 use Rattle.sheet.specs.Refusals.{recordWrong, recordsWrong, actionUnused, transitionWrong, transitionsWrong, risingBytes, orderWrong, tooManyActions}
@@ -60,10 +61,10 @@ abbrev stepsPart : List ℕ → Sizes → List ℕ
 stepsPart b z = take (length b - 10 - z .s) (drop (z .s) b)
 
 module _ {b : List ℕ} {z : Sizes} (r : TrailerRead b z) where
-  pub records-long : 16 * z .n ≤ length (recordsPart b z)
+  pub records-long : recordSize * z .n ≤ length (recordsPart b z)
   records-long = simp length-take (omega arith)
 
-  pub steps-short : length (stepsPart b z) ≤ 8192
+  pub steps-short : length (stepsPart b z) ≤ stepSize * mostSteps
   steps-short = simp (length-take, length-drop) (omega arith)
 
   front-read : take (z .s) b ≡ front b
@@ -72,25 +73,25 @@ module _ {b : List ℕ} {z : Sizes} (r : TrailerRead b z) where
 
   -- what stands in a record stands in all bytes before the steps
   module _ (j : ℕ) (l : j < z .n) where
-    field-same : (at size : ℕ) → at + size ≤ 16 * j + 16 → field at size (recordsPart b z) ≡ field at size (front b)
+    field-same : (at size : ℕ) → at + size ≤ recordSize * j + recordSize → field at size (recordsPart b z) ≡ field at size (front b)
     field-same at size h =
         field-within at size (z .t - 0) b (omega arith) ∙ sym (field-within at size (z .s) b (omega arith)) ∙ ap (field at size) front-read
 
     states-same : statesOf (recordsPart b z) j ≡ statesOf (front b) j
     unfolding statesOf
-    states-same = field-same (16 * j) 1 (omega arith)
+    states-same = field-same (recordSize * j) 1 (omega arith)
 
     filler-same : fillerOf (recordsPart b z) j ≡ fillerOf (front b) j
     unfolding fillerOf
-    filler-same = field-same (16 * j + 1) 3 (omega arith)
+    filler-same = field-same (recordSize * j + 1) 3 (omega arith)
 
     initial-same : initialOf (recordsPart b z) j ≡ initialOf (front b) j
     unfolding initialOf
-    initial-same = field-same (16 * j + 4) 4 (omega arith)
+    initial-same = field-same (recordSize * j + 4) 4 (omega arith)
 
     alphabet-same : alphabetOf (recordsPart b z) j ≡ alphabetOf (front b) j
     unfolding alphabetOf
-    alphabet-same = field-same (16 * j + 8) 8 (omega arith)
+    alphabet-same = field-same (recordSize * j + 8) 8 (omega arith)
 
     record-same : recordWrong (recordsPart b z) (z .m) j ≡ recordWrong (front b) (z .m) j
     unfolding recordWrong
@@ -104,7 +105,7 @@ module _ {b : List ℕ} {z : Sizes} (r : TrailerRead b z) where
   transition-bytes : parts 4 (length (transitionsPart b z) / 4) (transitionsPart b z) ≡ transitionBytes (front b) (componentCount b)
   unfolding transitionBytes front
   transition-bytes =
-      let at : 16 * componentCount b ≡ z .t = omega arith in
+      let at : recordSize * componentCount b ≡ z .t = omega arith in
       let behind = drop-take (z .t) (z .s) b (r .s-behind) in
       let size : length (transitionsPart b z) ≡ length (take (z .s) b) - z .t = ap length (sym behind) ∙ length-drop (z .t) (take (z .s) b) in
       rw (at, ← r .s-read, size, behind)
@@ -158,6 +159,6 @@ module _ {b : List ℕ} {z : Sizes} (r : TrailerRead b z) where
   order-told e = sym (e ∙ ap (λ (l : List (List ℕ)). not (risingBytes l)) transition-bytes)
 
   -- 9
-  pub count-told : {x : ℕ} → x ≡ length (flat (stepsIn (stepsPart b z))) → tooManyActions b ≡ ltb 1024 x
+  pub count-told : {x : ℕ} → x ≡ length (flat (stepsIn (stepsPart b z))) → tooManyActions b ≡ ltb mostInSteps x
   unfolding tooManyActions
-  count-told e = ap (ltb 1024) (sym (e ∙ ap (λ (l : List ℕ). length (flat l)) steps-part))
+  count-told e = ap (ltb mostInSteps) (sym (e ∙ ap (λ (l : List ℕ). length (flat l)) steps-part))

@@ -7,6 +7,7 @@ ghost use mathlib.Core.Path.{_≡_};
 ghost use Prim.Native.Nat.{ℕ, _+_, _*_, _≤_};
 ghost use lib.ListN.{length, take};
 ghost use Rattle.systems.specs.Checking.{flat};
+ghost use Rattle.sheet.specs.Bounds.{recordSize, stepSize, trailerSize, mostComponents, mostSteps};
 ghost use Rattle.sheet.specs.Layout.{tablesOf};
 ghost use Rattle.sheet.specs.Verdict.{accepted, trailerVerdict, tablesVerdict};
 ghost use Rattle.sheet.specs.Sections.{stepsIn, Alphabets};
@@ -18,7 +19,7 @@ use answers::Sizes;
 
 // The sizes that the trailer tells.
 fn sizes(sheet: &[u8]) -> Answer
-    requires { ⌜ 10 ≤ length (now sheet) ⌝ }
+    requires { ⌜ trailerSize ≤ length (now sheet) ⌝ }
     ensures { λ r. ⌜ outcomeOf r ≡ readOutcome (now (sheet .entry)) accepted ⌝ }
 {
     let l = sheet.len();
@@ -62,7 +63,7 @@ pub fn read_trailer(sheet: &[u8]) -> Answer
 
 // Puts the alphabets of n records into `found`.
 pub fn alphabets(records: &[u8], n: usize, found: &mut [u64])
-    requires { ⌜ (n ≤ 16) × (16 * n ≤ length (now records)) × (length (now found) ≡ 16) ⌝ }
+    requires { ⌜ (n ≤ mostComponents) × (recordSize * n ≤ length (now records)) × (length (now found) ≡ mostComponents) ⌝ }
     ensures { λ _. ⌜ ((m : ℕ) → Alphabets (tablesOf (now (records .entry)) n m) n (now (found .exit))) ⌝ }
 {
     let mut j = 0;
@@ -74,7 +75,7 @@ pub fn alphabets(records: &[u8], n: usize, found: &mut [u64])
 
 // The step section of a sheet whose steps begin at `s`: the bytes from there up to the trailer.
 pub fn step_section(sheet: &[u8], s: usize) -> &[u8]
-    requires { ⌜ s + 10 ≤ length (now sheet) ⌝ }
+    requires { ⌜ s + trailerSize ≤ length (now sheet) ⌝ }
     ensures { λ r. ⌜ now r ≡ upToTrailer s (now (sheet .entry)) ⌝ }
 {
     &sheet[s..sheet.len() - 10]
@@ -82,7 +83,7 @@ pub fn step_section(sheet: &[u8], s: usize) -> &[u8]
 
 // How many actions the steps of the section have together.
 pub fn actions_in(section: &[u8]) -> u64
-    requires { ⌜ length (now section) ≤ 8192 ⌝ }
+    requires { ⌜ length (now section) ≤ stepSize * mostSteps ⌝ }
     ensures { λ r. ⌜ r ≡ length (flat (stepsIn (now (section .entry)))) ⌝ }
 {
     let count = section.len() / 8;
@@ -97,7 +98,7 @@ pub fn actions_in(section: &[u8]) -> u64
 
 // Refusals 5 to 9 of a sheet whose trailer passed: the first that holds, or the sizes. Of a sheet that passes, the alphabets are left in `found`.
 pub fn read_tables(sheet: &[u8], sizes: Sizes, found: &mut [u64]) -> Answer
-    requires { ⌜ TrailerPassed (now sheet) sizes × (length (now found) ≡ 16) ⌝ }
+    requires { ⌜ TrailerPassed (now sheet) sizes × (length (now found) ≡ mostComponents) ⌝ }
     ensures { λ r. ⌜ (outcomeOf r ≡ readOutcome (now (sheet .entry)) (tablesVerdict (now (sheet .entry)) accepted))
         × (r ≡ Accepted sizes → Alphabets (tablesOf (take (sizes .s) (now (sheet .entry))) (sizes .n) (sizes .m)) (sizes .n) (now (found .exit))) ⌝ }
 {

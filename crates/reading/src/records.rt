@@ -5,6 +5,7 @@ ghost use Prim.Native.Nat.{_+_, _-_, _*_, _^_, _≤_};
 ghost use lib.Dec.{eqb};
 ghost use lib.ListN.{length};
 ghost use Rattle.sets.specs.Lists.{anyOf, below};
+ghost use Rattle.sheet.specs.Bounds.{recordSize, mostComponents, mostActions};
 ghost use Rattle.sheet.specs.Numbers.{field};
 ghost use Rattle.sheet.specs.Refusals.{recordWrong};
 ghost use Rattle.reading.specs.records.Alphabets.{UnionOfAlphabets, unusedIn};
@@ -20,7 +21,7 @@ fn filler_set(s: &[u8], at: usize) -> bool
 
 // 5, of the record with index j.
 fn record_wrong(records: &[u8], m: u64, j: usize) -> bool
-    requires { ⌜ (m ≤ 64) × (16 * j + 16 ≤ length (now records)) ⌝ }
+    requires { ⌜ (m ≤ mostActions) × (recordSize * j + recordSize ≤ length (now records)) ⌝ }
     ensures { λ r. ⌜ r ≡ recordWrong (now (records .entry)) m j ⌝ }
 {
     let at = 16 * j;
@@ -35,7 +36,7 @@ fn record_wrong(records: &[u8], m: u64, j: usize) -> bool
 
 // 5: whether some record is wrong, of n records.
 pub fn records_wrong(records: &[u8], n: usize, m: u64) -> bool
-    requires { ⌜ (m ≤ 64) × (n ≤ 16) × (16 * n ≤ length (now records)) ⌝ }
+    requires { ⌜ (m ≤ mostActions) × (n ≤ mostComponents) × (recordSize * n ≤ length (now records)) ⌝ }
     ensures { λ r. ⌜ r ≡ anyOf (recordWrong (now (records .entry)) m) (below n) ⌝ }
 {
     let mut j = 0;
@@ -64,7 +65,7 @@ fn actions_used(alphabets: &[u64], n: usize) -> u64
 
 // All m actions: the set of the numbers below m.
 fn all_actions(m: u32) -> u64
-    requires { ⌜ m ≤ 64 ⌝ }
+    requires { ⌜ m ≤ mostActions ⌝ }
     ensures { λ r. ⌜ r ≡ 2 ^ m - 1 ⌝ }
 {
     if m == 64 {
@@ -75,7 +76,7 @@ fn all_actions(m: u32) -> u64
 
 // 6: whether the n alphabets leave out one of the m actions.
 pub fn action_unused(alphabets: &[u64], n: usize, m: u32) -> bool
-    requires { ⌜ (m ≤ 64) × (n ≤ length (now alphabets)) ⌝ }
+    requires { ⌜ (m ≤ mostActions) × (n ≤ length (now alphabets)) ⌝ }
     ensures { λ r. ⌜ r ≡ unusedIn (now (alphabets .entry)) n m ⌝ }
 {
     let all = all_actions(m);

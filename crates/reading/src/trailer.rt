@@ -4,6 +4,7 @@ ghost use mathlib.Core.Bool.{not, _||_};
 ghost use Prim.Native.Nat.{_-_, _*_, _%_, _<_, _≤_};
 ghost use lib.Dec.{ltb, eqb};
 ghost use lib.ListN.{length};
+ghost use Rattle.sheet.specs.Bounds.{trailerSize};
 ghost use Rattle.sheet.specs.Refusals.{outside, lengthWrong, markWrong, countsWrong, offsetsWrong};
 
 // Whether x is below `low` or above `high`.
@@ -32,7 +33,7 @@ pub fn mark_wrong(sheet: &[u8]) -> bool
 
 // 3: whether there are too few or too many components or actions.
 pub fn counts_wrong(sheet: &[u8]) -> bool
-    requires { ⌜ 10 ≤ length (now sheet) ⌝ }
+    requires { ⌜ trailerSize ≤ length (now sheet) ⌝ }
     ensures { λ r. ⌜ r ≡ countsWrong (now (sheet .entry)) ⌝ }
 {
     let l = sheet.len();
@@ -50,7 +51,7 @@ fn section_length_wrong(length: u64, size: u64) -> bool
 
 // 4: whether a section does not stand in its place. The steps come first, so that no length falls below 0.
 pub fn offsets_wrong(sheet: &[u8]) -> bool
-    requires { ⌜ 10 ≤ length (now sheet) ⌝ }
+    requires { ⌜ trailerSize ≤ length (now sheet) ⌝ }
     ensures { λ r. ⌜ r ≡ offsetsWrong (now (sheet .entry)) ⌝ }
 {
     let l = sheet.len();

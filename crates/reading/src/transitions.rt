@@ -8,11 +8,12 @@ ghost use lib.ListN.{length, take, drop, getD};
 ghost use Rattle.sets.specs.Lists.{anyOf};
 ghost use Rattle.sets.specs.Bits.{member};
 ghost use Rattle.systems.specs.Tables.{Tables};
+ghost use Rattle.sheet.specs.Bounds.{recordSize, transitionSize, mostComponents};
 ghost use Rattle.sheet.specs.Numbers.{parts};
 ghost use Rattle.sheet.specs.Layout.{transitionOf, tablesOf};
 ghost use Rattle.sheet.specs.Refusals.{transitionWrong, risingBytes};
 ghost use Rattle.sheet.specs.Sections.{sectionTables, Alphabets};
-ghost use Rattle.reading.specs.transitions.Fitting.{AtHand, heavyFirst};
+ghost use Rattle.reading.specs.transitions.Fitting.{ComponentHas, heavyFirst};
 
 // Whether a component with this alphabet cannot have the label.
 fn label_wrong(alphabet: u64, label: u8) -> bool
@@ -28,8 +29,8 @@ fn label_wrong(alphabet: u64, label: u8) -> bool
 
 // Whether the transition at `at` does not fit a component with so many states and this alphabet.
 fn transition_wrong(section: &[u8], at: usize, states: u8, alphabet: u64) -> bool
-    requires { ⌜ at + 4 ≤ length (now section) ⌝ }
-    ensures { λ r. ⌜ ((T : Tables) → AtHand T (getD (now (section .entry)) at 0) states alphabet
+    requires { ⌜ at + transitionSize ≤ length (now section) ⌝ }
+    ensures { λ r. ⌜ ((T : Tables) → ComponentHas T (getD (now (section .entry)) at 0) states alphabet
         → r ≡ transitionWrong T (transitionOf (take 4 (drop at (now (section .entry)))))) ⌝ }
 {
     if states <= section[at + 1] {
@@ -44,7 +45,8 @@ fn transition_wrong(section: &[u8], at: usize, states: u8, alphabet: u64) -> boo
 // 7: whether some transition of the section does not fit its component. Mostly that is the component of the one before, whose number of
 // states and alphabet are at hand. The number of actions, 0 in the contract, plays no part.
 pub fn transitions_wrong(section: &[u8], records: &[u8], alphabets: &[u64], n: usize) -> bool
-    requires { ⌜ (1 ≤ n) × (n ≤ 16) × (16 * n ≤ length (now records)) × Alphabets (tablesOf (now records) n 0) n (now alphabets) ⌝ }
+    requires { ⌜ (1 ≤ n) × (n ≤ mostComponents) × (recordSize * n ≤ length (now records))
+        × Alphabets (tablesOf (now records) n 0) n (now alphabets) ⌝ }
     ensures { λ r. ⌜ r
         ≡ anyOf (transitionWrong (sectionTables (now (records .entry)) (now (section .entry)) n 0))
         (map transitionOf (parts 4 (length (now (section .entry)) / 4) (now (section .entry)))) ⌝ }
@@ -82,7 +84,7 @@ fn two_bytes(s: &[u8], at: usize) -> u64
 
 // The four bytes at `at` as one number, the first byte heaviest: byte strings of four rise as these numbers do.
 fn key(s: &[u8], at: usize) -> u64
-    requires { ⌜ at + 4 ≤ length (now s) ⌝ }
+    requires { ⌜ at + transitionSize ≤ length (now s) ⌝ }
     ensures { λ r. ⌜ r ≡ heavyFirst (take 4 (drop at (now (s .entry)))) ⌝ }
 {
     65536 * two_bytes(s, at) + two_bytes(s, at + 2)

@@ -6,7 +6,7 @@ use Prim.Native.Nat.{ℕ}
 use lib.ListN.{length, drop}
 use Rattle.sets.specs.Lists.{over}
 use Rattle.answers.specs.declared.Answer.{Answer}
-use Rattle.answers.specs.Outcomes.{given, refused, values, single}
+use Rattle.answers.specs.Outcomes.{given, refused, values, oneValue}
 use Rattle.answers.specs.FirstRefusal.{ReportRefusal}
 use Rattle.answers.specs.Report.{report, reporting, reportOutput}
 use Rattle.answers.proofs.Told.{is-given, refused-only, number-only}
@@ -34,13 +34,15 @@ writes b out left k c =
     let size : length (report b) ≡ k = given-size b out k told in
     (sym size, c .output-left ∙ given-left b out k told ∙ ap (λ (j : ℕ). report b ++ drop j out) size)
 
+-- D1, R13, P1 to P5: the length of the text, or 13; what the output is afterwards
 pub report-demand : ReportDemand
 report-demand =
     record {
       report-answers = λ b out left r c.
           number-or (λ x. x) (ReportRefusal b (length out)) (reporting b (length out)) (report-refuses b (length out)) r (c .answer-told);
-      report-serves = λ b out left r c long. is-given r (length (report b)) (c .answer-told ∙ ap (values single) (room-serves b out long));
+      report-serves = λ b out left r c long.
+          is-given r (length (report b)) (c .answer-told ∙ ap (values oneValue) (room-serves b out long));
       report-writes = writes;
       refused-untouched = λ b out left k i s c.
-          c .output-left ∙ refused-left b out k i s (refused-only single (reporting b (length out)) k i s (c .answer-told));
+          c .output-left ∙ refused-left b out k i s (refused-only oneValue (reporting b (length out)) k i s (c .answer-told));
     }

@@ -1,4 +1,4 @@
--- The lines written for a sheet are its report, and a report always fits 16,384 bytes; what is then printed.
+-- P1 to P5: the lines written for a sheet are its report, and a report always fits 16,384 bytes; what is then printed.
 -- Assumes nothing.
 use mathlib.Core.Path.{_≡_, refl, sym, ap, ap₂, _∙_}
 use mathlib.Core.Bool.{Bool, true, false}
@@ -11,6 +11,7 @@ use Rattle.sets.specs.Lists.{appendAll, over, below}
 use Rattle.sets.specs.Bits.{members}
 use Rattle.sets.proofs.Lists.{mem-below}
 use Rattle.systems.specs.Checking.{flat}
+use Rattle.sheet.specs.Bounds.{longest, mostSteps, mostInSteps}
 use Rattle.sheet.specs.Layout.{componentCount, actionCount, transitionsAt, stepsAt, stepCount, tables, steps}
 use Rattle.sheet.specs.Verdict.{Verdict, verdict, IsVerdict, sheet-refused, step-refused, all-passed, Accepted}
 use Rattle.sheet.proofs.Limits.{limits-exact}
@@ -18,13 +19,13 @@ use Rattle.sheet.proofs.Verdicts.{verdict-first, verdict-number}
 use Rattle.sheet.proofs.RoundTrip.{steps-length}
 use Rattle.answers.specs.declared.Sizes.{Sizes}
 use Rattle.answers.specs.declared.Answer.{Answer}
-use Rattle.answers.specs.Outcomes.{Outcome, given, values, single, bit, outcomeOf, readOutcome}
+use Rattle.answers.specs.Outcomes.{Outcome, given, values, oneValue, bit, outcomeOf, readOutcome}
 use Rattle.answers.specs.LentOutput.{outputBy}
-use Rattle.answers.specs.EndSets.{endSet}
+use Rattle.answers.specs.Ends.{endSet}
 use Rattle.answers.specs.Restated.{restatedSteps}
 use Rattle.answers.specs.Figure.{quotient, figure}
 use Rattle.answers.specs.Stuck.{stuck}
-use Rattle.answers.specs.Report.{acceptedWord, refusedWord, endWord, line, stepTexts, endTexts, summaryLine, stepLines, endLines, report, reporting, reportOutput}
+use Rattle.answers.specs.Report.{acceptedWord, refusedWord, endWord, line, stepTexts, endTexts, summaryLine, stepLines, endLines, report, reporting, reportOutput, reportRoom}
 use Rattle.answers.proofs.Normal.{normal-actions, normal-no-longer}
 use Rattle.answers.proofs.Restated.{restated-normal, accepted-limits, accepted-order, accepted-fine}
 use Rattle.answers.proofs.Reports.{report-refused, report-accepted}
@@ -75,7 +76,7 @@ bit-small true = omega arith
 bit-small false = omega arith
 
 module _ (b : List ℕ) (acc : Accepted b) where
-  few-steps : length (restatedSteps b) ≤ 1024
+  few-steps : length (restatedSteps b) ≤ mostSteps
   unfolding stepCount
   few-steps =
       let n = normal-no-longer (tables b) (accepted-order b acc) (steps b) (accepted-fine b acc) in
@@ -86,7 +87,7 @@ module _ (b : List ℕ) (acc : Accepted b) where
       let whole = k .2 in
       omega arith
 
-  few-actions : length (flat (restatedSteps b)) ≤ 1024
+  few-actions : length (flat (restatedSteps b)) ≤ mostInSteps
   few-actions =
       let e = ap (λ (xs : List ℕ). length (flat xs)) (restated-normal b) in
       let n = normal-actions (tables b) (accepted-order b acc) (steps b) (accepted-fine b acc) in
@@ -101,7 +102,7 @@ module _ (b : List ℕ) (acc : Accepted b) where
   unfolding figure
   small-figure = go (length (restatedSteps b)) few-steps
     where
-      go : (k : ℕ) → k ≤ 1024 → quotient (length (flat (steps b))) k ≤ 21504
+      go : (k : ℕ) → k ≤ mostSteps → quotient (length (flat (steps b))) k ≤ 21504
       go zero h = omega arith
       go (suc k) h =
           let d = div-le-self (20 * length (flat (steps b)) + suc k) (2 * suc k) in
@@ -119,7 +120,7 @@ module _ (b : List ℕ) (acc : Accepted b) where
       (omega arith, (omega arith, (omega arith, (bit-small (stuck b), tt)))) in
       omega arith
 
-  accepted-short : length (report b) ≤ 16384
+  accepted-short : length (report b) ≤ reportRoom
   unfolding stepLines
   accepted-short =
       let e = ap length (report-accepted b acc) in
@@ -133,11 +134,11 @@ module _ (b : List ℕ) (acc : Accepted b) where
       omega arith
 
 -- the step that a refusal names is one of the sheet, and there are few
-refused-index : (b : List ℕ) (k i : ℕ) → verdict b ≡ Verdict.refused k i → i < 16650
+refused-index : (b : List ℕ) (k i : ℕ) → verdict b ≡ Verdict.refused k i → i < longest
 unfolding stepCount
 refused-index b k i e = go (verdict-first b) e
   where
-    go : {v : Verdict} → IsVerdict b v → v ≡ Verdict.refused k i → i < 16650
+    go : {v : Verdict} → IsVerdict b v → v ≡ Verdict.refused k i → i < longest
     go (sheet-refused l h before) q = let z : 0 ≡ i = cc in omega arith
     go (step-refused f passed first) q =
         let z : f .index ≡ i = cc in
@@ -147,10 +148,10 @@ refused-index b k i e = go (verdict-first b) e
         omega arith
     go (all-passed passed faultless) q = let z : _≡_ {A = ℕ} 0 1 = cc in absurd (omega arith)
 
-pub report-short : (b : List ℕ) → length (report b) ≤ 16384
+pub report-short : (b : List ℕ) → length (report b) ≤ reportRoom
 report-short b = go (verdict b) refl
   where
-    go : (v : Verdict) → verdict b ≡ v → length (report b) ≤ 16384
+    go : (v : Verdict) → verdict b ≡ v → length (report b) ≤ reportRoom
     go Verdict.accepted e = accepted-short b e
     go (Verdict.refused k i) e =
         let l = ap length (report-refused b k i e) in
@@ -161,14 +162,15 @@ report-short b = go (verdict b) refl
 
 -- the room that the lines of an accepted sheet and that of a refusal take
 pub accepted-room : (b : List ℕ) (z : Sizes) → AcceptedSheet b z → (sets : List ℕ) → sets ≡ endArrayBy (verdict b) b
-    → (numbers packed : List ℕ) (count : ℕ) → line acceptedWord numbers ≡ summaryLine b → PackedSteps b packed count → (size : ℕ) → 16384 ≤ size
+    → (numbers packed : List ℕ) (count : ℕ) → line acceptedWord numbers ≡ summaryLine b → PackedSteps b packed count
+    → (size : ℕ) → reportRoom ≤ size
     → 0 + length (line acceptedWord numbers ++ (stepTexts (take count packed) ++ endTexts (λ j. getD sets j 0) (below (z .n)))) ≤ size
 accepted-room b z r sets ended numbers packed count q p size h =
     let x = ap length (accepted-text b z r sets ended numbers packed count q p) in
     let y = report-short b in
     omega arith
 
-pub refusal-room : (k i size : ℕ) → k < 18446744073709551616 → i < 18446744073709551616 → 16384 ≤ size
+pub refusal-room : (k i size : ℕ) → k < 18446744073709551616 → i < 18446744073709551616 → reportRoom ≤ size
     → 0 + length (line refusedWord (k ∷ i ∷ [])) ≤ size
 refusal-room k i size few few′ h = let m = line-most refusedWord (k ∷ i ∷ []) (omega arith, (omega arith, tt)) in omega arith
 
@@ -178,16 +180,16 @@ pub printed-short : (b out : List ℕ) → length out < length (report b) → Re
 unfolding reporting reportOutput
 printed-short b out h =
     let e = fitting-short (report b) (length out) h in
-    record { answer-told = ap (values single) (sym e); output-left = ap (λ (o : Outcome ℕ). outputBy o (report b) out) (sym e) }
+    record { answer-told = ap (values oneValue) (sym e); output-left = ap (λ (o : Outcome ℕ). outputBy o (report b) out) (sym e) }
 
 pub printed-long : (b out : List ℕ) → length (report b) ≤ length out → ReportAnswer b out (Answer.Given (length (report b))) (over (report b) out)
 unfolding reporting reportOutput
 printed-long b out h =
     let e = fitting-long (report b) (length out) h in
-    record { answer-told = ap (values single) (sym e); output-left = ap (λ (o : Outcome ℕ). outputBy o (report b) out) (sym e) }
+    record { answer-told = ap (values oneValue) (sym e); output-left = ap (λ (o : Outcome ℕ). outputBy o (report b) out) (sym e) }
 
 -- an output of 16,384 bytes always serves
-pub room-serves : (b out : List ℕ) → 16384 ≤ length out → reporting b (length out) ≡ given (length (report b))
+pub room-serves : (b out : List ℕ) → reportRoom ≤ length out → reporting b (length out) ≡ given (length (report b))
 unfolding reporting
 room-serves b out h = let s = report-short b in fitting-long (report b) (length out) (omega arith)
 
@@ -195,7 +197,7 @@ module _ (b : List ℕ) {x text : List ℕ} {size : ℕ} (W : TextAt (report b) 
   size-told : size ≡ length (report b)
   size-told = let e = W .place in omega arith
 
-  pub text-fits : 16384 ≤ length x → size ≤ length text
+  pub text-fits : reportRoom ≤ length x → size ≤ length text
   text-fits h =
       let e = size-told in
       let s = W .size in
@@ -214,6 +216,6 @@ module _ (b : List ℕ) {x text : List ℕ} {size : ℕ} (W : TextAt (report b) 
       let e = size-told in
       let p = printed-long b out (omega arith) in
       record {
-        answer-told = ap (λ (k : ℕ). given (single k)) e ∙ p .answer-told;
+        answer-told = ap (λ (k : ℕ). given (oneValue k)) e ∙ p .answer-told;
         output-left = q ∙ ap (λ (l : List ℕ). over l out) text-told ∙ p .output-left;
       }

@@ -7,14 +7,15 @@ use Prim.Native.Nat.{ℕ, _≤_}
 use lib.ListN.{length, drop}
 use Rattle.answers.specs.declared.Answer.{Answer}
 use Rattle.answers.specs.FirstRefusal.{ReportRefusal, NumberOr}
-use Rattle.answers.specs.Report.{report}
+use Rattle.answers.specs.Report.{report, reportRoom}
 use Rattle.report.specs.Calls.{ReportAnswer}
 
 pub record ReportDemand : Type 0 where
   -- the length of the text, or 13
   pub report-answers : (b out left : List ℕ) (r : Answer) → ReportAnswer b out r left → NumberOr (ReportRefusal b (length out)) r
-  -- 16,384 bytes always serve
-  pub report-serves : (b out left : List ℕ) (r : Answer) → ReportAnswer b out r left → 16384 ≤ length out → r ≡ Answer.Given (length (report b))
+  -- an output of reportRoom bytes always serves
+  pub report-serves : (b out left : List ℕ) (r : Answer) → ReportAnswer b out r left → reportRoom ≤ length out
+      → r ≡ Answer.Given (length (report b))
   -- the text stands in front, and the bytes behind it keep their values
   pub report-writes : (b out left : List ℕ) (k : ℕ) → ReportAnswer b out (Answer.Given k) left
       → (k ≡ length (report b)) × (left ≡ report b ++ drop k out)

@@ -13,8 +13,8 @@ true-or-false true = inl refl
 true-or-false false = inr refl
 
 -- no Bool is both
-pub clash : {b : Bool} → b ≡ true → b ≡ false → ⊥
-clash t f = true≢false (sym t ∙ f)
+pub not-both : {b : Bool} → b ≡ true → b ≡ false → ⊥
+not-both t f = true≢false (sym t ∙ f)
 
 pub iff-bool : (a b : Bool) → ((a ≡ true) ↔ (b ≡ true)) → a ≡ b
 iff-bool true b h = sym (h .0 refl)

@@ -9,7 +9,7 @@ use Prim.Native.Nat.{ℕ, zero, suc, _+_, _≤_, _<_, zero-le}
 use native.Mathlib.Nat.{lt-irrefl, le-antisymm, eq-or-lt-of-le}
 use native.Mathlib.Omega.{arith}
 use Rattle.sets.specs.Lists.{anyOf, allOf, appendAll, Distinct, upward, below, RisingAbove, Rising}
-use Rattle.sets.proofs.Bools.{clash, false-iff, and-true, or-true, or-left-comm}
+use Rattle.sets.proofs.Bools.{not-both, false-iff, and-true, or-true, or-left-comm}
 
 module _ {ℓ} {A : Type ℓ} where
   -- ---- some
@@ -28,10 +28,10 @@ module _ {ℓ} {A : Type ℓ} where
       go rest (inr e) = let r = rest e in (r .0, List·Memᴰ·tail (r .1), r .2)
 
   pub anyOf-false : (p : A → Bool) (l : List A) → anyOf p l ≡ false → {x : A} → List·Memᴰ x l → p x ≡ false
-  anyOf-false p l h {x} m = false-iff (p x) .1 (λ t. clash (anyOf-intro p l m t) h)
+  anyOf-false p l h {x} m = false-iff (p x) .1 (λ t. not-both (anyOf-intro p l m t) h)
 
   pub none-false : (p : A → Bool) (l : List A) → ((x : A) → List·Memᴰ x l → p x ≡ false) → anyOf p l ≡ false
-  none-false p l h = false-iff (anyOf p l) .1 (λ t. let r = anyOf-elim p l t in clash (r .2) (h (r .0) (r .1)))
+  none-false p l h = false-iff (anyOf p l) .1 (λ t. let r = anyOf-elim p l t in not-both (r .2) (h (r .0) (r .1)))
 
   pub anyOf-append : (p : A → Bool) (k l : List A) → anyOf p (k ++ l) ≡ (anyOf p k || anyOf p l)
   anyOf-append p [] l = refl

@@ -13,7 +13,7 @@ use lib.Bits.{bitAnd, and-le-r}
 use lib.Count.{trailingZeros, under}
 use Rattle.sets.specs.Lists.{RisingAbove, Rising}
 use Rattle.sets.specs.Bits.{member, members}
-use Rattle.sets.proofs.Bools.{true-or-false, clash, not-true, and-true, eqb-true, eqb-false}
+use Rattle.sets.proofs.Bools.{true-or-false, not-both, not-true, and-true, eqb-true, eqb-false}
 use Rattle.sets.proofs.Lists.{rising-same}
 use Rattle.sets.proofs.Members.{member-low, member-half, member-and, members-mem, members-rising}
 
@@ -74,7 +74,7 @@ lowest-least (suc k) x i m = go (lowest-least k (x / 2)) i m (parity x)
     go : ((j : ℕ) → member (x / 2) j ≡ true → trailingZeros k (x / 2) ≤ j) → (j : ℕ) → member x j ≡ true → (x % 2 ≡ 1) ⊎ (x % 2 ≡ 0)
         → trailingZeros (suc k) x ≤ j
     go rest j m (inl o) = let e = trailing-odd k x o in omega arith
-    go rest zero m (inr o) = absurd (clash m (member-even x o))
+    go rest zero m (inr o) = absurd (not-both m (member-even x o))
     go rest (suc j) m (inr o) = let e = trailing-even k x o in let r = rest j (sym (member-half x j) ∙ m) in omega arith
 
 -- ---- the set without it

@@ -17,7 +17,7 @@ use lib.Count.{ones, ones-step, ones-ones}
 use lib.ListN.{length}
 use Rattle.sets.specs.Lists.{keep, RisingAbove, Rising}
 use Rattle.sets.specs.Bits.{member, membersFrom, members, with, setOf}
-use Rattle.sets.proofs.Bools.{true-or-false, clash, iff-bool, or-true, eqb-true, eqb-false}
+use Rattle.sets.proofs.Bools.{true-or-false, not-both, iff-bool, or-true, eqb-true, eqb-false}
 use Rattle.sets.proofs.Lists.{above-rising, rising-same}
 
 -- ---- bit by bit: the lowest bit, and the bits of the half
@@ -114,7 +114,7 @@ member-some = bin-ind (λ (x : ℕ). x ≢ 0 → (i : ℕ) × (member x i ≡ tr
 
 pub member-lt : (n x i : ℕ) → x < 2 ^ n → member x i ≡ true → i < n
 member-lt n x i h e =
-    lt-of-not-le (λ (l : n ≤ i). clash e (ap (λ (y : ℕ). eqb (y % 2) 1) (div-eq-of-lt (lt-of-lt-of-le h (pow-mono l)))))
+    lt-of-not-le (λ (l : n ≤ i). not-both e (ap (λ (y : ℕ). eqb (y % 2) 1) (div-eq-of-lt (lt-of-lt-of-le h (pow-mono l)))))
 
 pub lt-members : (n x : ℕ) → ((i : ℕ) → member x i ≡ true → i < n) → x < 2 ^ n
 lt-members zero x h = lt-of-not-le (λ (l : 1 ≤ x). let r = member-some x (omega arith) in not-suc-le-zero (h (r .0) (r .1)))
@@ -201,7 +201,7 @@ members-zero = refl
 -- ---- the set of a list's elements
 
 from-setOf : (l : List ℕ) (i : ℕ) → member (setOf l) i ≡ true → List·Memᴰ i l
-from-setOf [] i h = absurd (clash h (member-zero i))
+from-setOf [] i h = absurd (not-both h (member-zero i))
 from-setOf (j ∷ l) i h = go (from-setOf l i) (or-true (eqb j i) (member (setOf l) i) .0 (sym (member-with j (setOf l) i) ∙ h))
   where
     go : (member (setOf l) i ≡ true → List·Memᴰ i l) → (eqb j i ≡ true) ⊎ (member (setOf l) i ≡ true) → List·Memᴰ i (j ∷ l)

@@ -12,7 +12,7 @@ use Rattle.sheet.specs.Layout.{recordsAt, transitionsAt, stepsAt, compon
 use Rattle.sheet.specs.Refusals.{lengthWrong, markWrong, countsWrong, offsetsWrong, recordWrong, recordsWrong, actionUnused, transitionWrong, transitionsWrong, orderWrong, tooManyActions, refusal}
 use Rattle.sheet.specs.Verdict.{stepsVerdict, verdict}
 use Rattle.sheet.specs.Cases.{Case, holdingOf, oneToNine, refusalCases, ComesOut}
-use Rattle.sheet.specs.LimitCases.{Side, limitCases}
+use Rattle.sheet.specs.LimitCases.{LimitCase, limitCases}
 
 -- two lists that two maps give are equal: so are the images of each element
 images : {A B : Type 0} (f g : A → B) (l : List A) → map f l ≡ map g l → (x : A) → List·Memᴰ x l → f x ≡ g x
@@ -26,11 +26,13 @@ all-come-out :
 unfolding upward below members membersFrom shares dependent rounds closure start enabled fire notActions notApart notEnabled stepFault field recordsAt transitionsAt stepsAt componentCount actionCount closing front statesOf fillerOf initialOf alphabetOf transitionBytes tablesOf tables stepCount steps lengthWrong markWrong countsWrong offsetsWrong recordWrong recordsWrong actionUnused transitionWrong transitionsWrong orderWrong tooManyActions refusal stepsVerdict verdict
 all-come-out = (refl, refl, refl)
 
+-- O1, O2: of each worked sheet just the refusals from 1 to 9 hold that its row says, and its verdict is the one that is due
 pub cases-hold : (c : Case) → List·Memᴰ c refusalCases → ComesOut c
 cases-hold c m = (
   images (λ d. holdingOf (d .given) oneToNine) (λ d. d .holding) refusalCases (all-come-out .0) c m,
   images (λ d. verdict (d .given)) (λ d. d .due) refusalCases (all-come-out .1) c m,
 )
 
-pub limits-hold : (s : Side) → List·Memᴰ s limitCases → verdict (s .given) ≡ s .due
+-- L1 to L7: on both sides of each limit the verdict is the one that is due
+pub limits-hold : (s : LimitCase) → List·Memᴰ s limitCases → verdict (s .given) ≡ s .due
 limits-hold s m = images (λ t. verdict (t .given)) (λ t. t .due) limitCases (all-come-out .2) s m

@@ -1,4 +1,4 @@
--- One sheet byte for byte: what is written, and what is read from it.
+-- S1 to S6: one sheet byte for byte: what is written, and what is read from it.
 -- A component of 3 states, two of them initial, with 10 actions; two transitions; one step, of the action 9. Then a sheet with the highest
 -- numbers that there are: component 15, state 31 and action 63.
 -- Assumes nothing.
@@ -31,14 +31,17 @@ behind =
     ∷ 0 ∷ 0 ∷ 16 ∷ 0 ∷ 24 ∷ 0 ∷ 1 ∷ 10 ∷ 0x46 ∷ 0x53
     ∷ []
 
+-- S1, S2: what is written, section behind section, of each number the low byte in front
 pub example-written : sheetOf before 1 10 (512 ∷ []) ≡ before ++ behind
 unfolding sheetOf trailer
 example-written = refl
 
+-- S5: the step that is read from it
 pub example-steps : steps (before ++ behind) ≡ 512 ∷ []
 unfolding steps stepCount stepsAt field
 example-steps = refl
 
+-- S3, S4, S6: the tables that are read from it
 pub record ExampleTables (T : Tables) : Type 0 where
   pub components-one : T .components ≡ 1
   pub actions-ten : T .actions ≡ 10
@@ -49,6 +52,7 @@ pub record ExampleTables (T : Tables) : Type 0 where
       T .transitions
       ≡ record { component = 0; source = 0; label = 9; target = 2 } ∷ record { component = 0; source = 1; label = internal; target = 0 } ∷ []
 
+-- S3, S4, S6: the tables of the first sheet are these
 pub example-tables : ExampleTables (tables (before ++ behind))
 unfolding tables tablesOf front stepsAt componentCount actionCount statesOf initialOf alphabetOf transitionBytes field
 example-tables =
@@ -67,6 +71,7 @@ example-tables =
 abbrev counted : List ℕ
 counted = 1 ∷ 2 ∷ 3 ∷ 4 ∷ 5 ∷ 6 ∷ 7 ∷ 8 ∷ 9 ∷ 10 ∷ 11 ∷ 12 ∷ 13 ∷ 14 ∷ 15 ∷ 16 ∷ 17 ∷ 18 ∷ 19 ∷ 20 ∷ 21 ∷ 22 ∷ 23 ∷ 24 ∷ 25 ∷ 26 ∷ []
 
+-- S1, S3, S6: which bytes each field has, the low byte in front
 pub record EachField (b : List ℕ) : Type 0 where
   pub state-count : statesOf b 0 ≡ 1
   pub filler : fillerOf b 0 ≡ 0x04_0302
@@ -79,6 +84,7 @@ pub record EachField (b : List ℕ) : Type 0 where
   pub count-m : actionCount b ≡ 24
   pub last-two : closing b ≡ 25 ∷ 26 ∷ []
 
+-- S1, S3, S6: each field is so
 pub each-field : EachField counted
 unfolding field statesOf fillerOf initialOf alphabetOf recordsAt transitionsAt stepsAt componentCount actionCount closing
 each-field =
@@ -101,14 +107,17 @@ nothing-there = refl
 
 -- ---- component 15, state 31, action 63
 
+-- S1, S2: what is written, section behind section
 pub widest-written : sheetOf widestFront 16 64 (0x8000_0000_0000_0000 ∷ []) ≡ widest
 unfolding sheetOf trailer
 widest-written = refl
 
+-- S5: the step that is read from it
 pub widest-steps : steps widest ≡ 0x8000_0000_0000_0000 ∷ []
 unfolding steps stepCount stepsAt field
 widest-steps = refl
 
+-- S3, S4, S6: the tables that are read from it
 pub record WidestTables (T : Tables) : Type 0 where
   pub components-16 : T .components ≡ 16
   pub actions-64 : T .actions ≡ 64
@@ -122,6 +131,7 @@ pub record WidestTables (T : Tables) : Type 0 where
       T .transitions
       ≡ record { component = 15; source = 31; label = 63; target = 31 } ∷ record { component = 15; source = 31; label = 255; target = 30 } ∷ []
 
+-- S3, S4, S6: the tables of the second sheet are these
 pub widest-tables : WidestTables (tables widest)
 unfolding tables tablesOf front stepsAt componentCount actionCount statesOf initialOf alphabetOf transitionBytes field
 widest-tables =
@@ -137,7 +147,7 @@ widest-tables =
       transitions-last = refl;
     }
 
--- what component 15 holds at the start, and after the step
+-- E2, E4: what component 15 holds at the start, and after the step
 pub record WidestRun (T : Tables) (xs : List ℕ) : Type 0 where
   pub at-start : start T 15 ≡ 0xc004_0201
   pub at-end : fireAll T (start T) (flat xs) 15 ≡ 0xc000_0000

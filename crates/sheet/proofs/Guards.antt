@@ -1,4 +1,4 @@
--- Refusals looked at in a row: they stop at one of them, whatever would come then, or let everything through.
+-- O1: refusals looked at in a row: they stop at one of them, whatever would come then, or let everything through.
 -- Assumes nothing.
 use mathlib.Core.Path.{_≡_, refl, sym, _∙_}
 use mathlib.Core.Bool.{Bool, true, false}

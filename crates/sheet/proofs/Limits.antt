@@ -21,7 +21,7 @@ use Rattle.sheet.specs.Bounds.{recordSize, transitionSize, stepSize, tra
 use Rattle.sheet.specs.Numbers.{number, field}
 use Rattle.sheet.specs.Layout.{recordsAt, transitionsAt, stepsAt, componentCount, actionCount, closing, mark, front, statesOf, fillerOf, initialOf, alphabetOf, transitionBytes, tablesOf, tables, steps}
 use Rattle.sheet.specs.Limits.{RecordInLimits, Before, shorter, here, later, AscendingFrom, Ascending, InLimits}
-use Rattle.sheet.specs.Refusals.{outside, sameBytes, lengthWrong, markWrong, countsWrong, offsetsWrong, recordWrong, recordsWrong, actionUnused, transitionWrong, transitionsWrong, lessBytes, risingFrom, risingBytes, orderWrong, tooManyActions, refusal}
+use Rattle.sheet.specs.Refusals.{outside, sameNumbers, lengthWrong, markWrong, countsWrong, offsetsWrong, recordWrong, recordsWrong, actionUnused, transitionWrong, transitionsWrong, lessBytes, risingFrom, risingBytes, orderWrong, tooManyActions, refusal}
 
 -- ---- tests that fail, each with what it then says
 
@@ -55,12 +55,12 @@ none-below p P right n =
 
 -- ---- bytes
 
-pub same-bytes : (k l : List ℕ) → (sameBytes k l ≡ true) ↔ (k ≡ l)
-same-bytes [] [] = (λ e. refl, λ e. refl)
-same-bytes [] (y ∷ l) = (λ e. absurd (false≢true e), λ e. cc)
-same-bytes (x ∷ k) [] = (λ e. absurd (false≢true e), λ e. cc)
-same-bytes (x ∷ k) (y ∷ l) =
-    Iff·trans (both (eqb-true x y) (same-bytes k l))
+pub same-numbers : (k l : List ℕ) → (sameNumbers k l ≡ true) ↔ (k ≡ l)
+same-numbers [] [] = (λ e. refl, λ e. refl)
+same-numbers [] (y ∷ l) = (λ e. absurd (false≢true e), λ e. cc)
+same-numbers (x ∷ k) [] = (λ e. absurd (false≢true e), λ e. cc)
+same-numbers (x ∷ k) (y ∷ l) =
+    Iff·trans (both (eqb-true x y) (same-numbers k l))
     (λ h. ap₂ (λ (d : ℕ) (ds : List ℕ). d ∷ ds) (h .0) (h .1), λ (e : x ∷ k ≡ y ∷ l). (cc, cc))
 
 -- a number is 0 exactly when each of its bytes is
@@ -118,23 +118,23 @@ ascending-right (x ∷ l) = from-right x l
 
 -- ---- refusals 1 to 9
 
--- 1
+-- R1 does not hold exactly when the length is within L7
 pub length-right : (b : List ℕ) → (lengthWrong b ≡ false) ↔ ((shortest ≤ length b) × (length b ≤ longest))
 unfolding lengthWrong
 length-right b = inside shortest longest (length b)
 
--- 2
+-- R2 does not hold exactly when the sheet ends in the closing mark
 pub mark-right : (b : List ℕ) → (markWrong b ≡ false) ↔ (closing b ≡ mark)
 unfolding markWrong
-mark-right b = Iff·trans (not-false (sameBytes (closing b) mark)) (same-bytes (closing b) mark)
+mark-right b = Iff·trans (not-false (sameNumbers (closing b) mark)) (same-numbers (closing b) mark)
 
--- 3
+-- R3 does not hold exactly when both counts are within L1 and L2
 pub counts-right : (b : List ℕ)
     → (countsWrong b ≡ false) ↔ (((1 ≤ componentCount b) × (componentCount b ≤ mostComponents)) × ((1 ≤ actionCount b) × (actionCount b ≤ mostActions)))
 unfolding countsWrong
 counts-right b = neither (inside 1 mostComponents (componentCount b)) (inside 1 mostActions (actionCount b))
 
--- 4
+-- R4 does not hold exactly when the offsets fit
 pub offsets-right : (b : List ℕ) → shortest ≤ length b
     → (offsetsWrong b ≡ false)
     ↔ ((recordsAt b ≡ 0)
@@ -162,7 +162,7 @@ offsets-right b long =
       λ h. ((((((omega arith, omega arith), (omega arith, omega arith)), omega arith), omega arith), omega arith), omega arith),
     )
 
--- 5
+-- R5 does not hold exactly when the record is in limits
 pub record-right : (b : List ℕ) (m j : ℕ) → (recordWrong b m j ≡ false) ↔ RecordInLimits b m j
 unfolding recordWrong fillerOf
 record-right b m j =
@@ -186,12 +186,13 @@ record-right b m j =
       λ r. ((((((r .states-low, r .states-high), r .filler-zero), r .some-initial), r .initial-below), r .some-action), r .action-below),
     )
 
+-- R5: so of all records
 pub records-right : (b : List ℕ)
     → (recordsWrong b ≡ false) ↔ ((j : ℕ) → j < componentCount b → RecordInLimits (front b) (actionCount b) j)
 unfolding recordsWrong
 records-right b = none-below (recordWrong (front b) (actionCount b)) (RecordInLimits (front b) (actionCount b)) (record-right (front b) (actionCount b)) (componentCount b)
 
--- 6
+-- R6 does not hold exactly when each action belongs to some component
 pub actions-used : (b : List ℕ)
     → (actionUnused b ≡ false) ↔ ((a : ℕ) → a < actionCount b → (j : ℕ) × (j < componentCount b) × (member (tables b .alphabet j) a ≡ true))
 unfolding actionUnused
@@ -206,7 +207,7 @@ actions-used b = none-below _ (λ a. (j : ℕ) × (j < componentCount b) × (mem
           λ h. anyOf-intro (λ j. member (tables b .alphabet j) a) (below (componentCount b)) (mem-below (componentCount b) (h .0) .1 (h .1)) (h .2),
         )
 
--- 7
+-- R7, of a label: it is the internal one, or known
 label-right : (l : ℕ) (known : Bool) → (not (eqb l internal || known) ≡ false) ↔ (l ≢ internal → known ≡ true)
 label-right l known = Iff·trans (not-false (eqb l internal || known)) (to, from (true-or-false (eqb l internal)))
   where
@@ -217,6 +218,7 @@ label-right l known = Iff·trans (not-false (eqb l internal || known)) (to, from
     from (inl q) h = or-true (eqb l internal) known .1 (inl q)
     from (inr q) h = or-true (eqb l internal) known .1 (inr (h (eqb-false l internal .0 q)))
 
+-- R7 does not hold exactly when the transition fits its component
 pub transition-right : (T : Tables) (t : Transition) → (transitionWrong T t ≡ false) ↔ Fits T t
 unfolding transitionWrong
 transition-right T t =
@@ -230,23 +232,25 @@ transition-right T t =
       λ r. (((r .component-below, r .source-below), r .target-below), r .label-known),
     )
 
+-- R7: so of all transitions
 pub transitions-right : (b : List ℕ)
     → (transitionsWrong b ≡ false) ↔ ((t : Transition) → List·Memᴰ t (tables b .transitions) → Fits (tables b) t)
 unfolding transitionsWrong
 transitions-right b = none-of (transitionWrong (tables b)) (Fits (tables b)) (transition-right (tables b)) (tables b .transitions)
 
--- 8
+-- R8 does not hold exactly when the bytes of the transitions rise
 pub order-right : (b : List ℕ) → (orderWrong b ≡ false) ↔ Ascending (transitionBytes (front b) (componentCount b))
 unfolding orderWrong
 order-right b = Iff·trans (not-false (risingBytes (transitionBytes (front b) (componentCount b)))) (ascending-right (transitionBytes (front b) (componentCount b)))
 
--- 9
+-- R9 does not hold exactly when the actions in all steps are within L6
 pub total-right : (b : List ℕ) → (tooManyActions b ≡ false) ↔ (length (flat (steps b)) ≤ mostInSteps)
 unfolding tooManyActions
 total-right b = ltb-false mostInSteps (length (flat (steps b)))
 
 -- ---- all of them
 
+-- L1 to L7: none of R1 to R9 holds exactly when the sheet is in limits
 pub limits-exact : (b : List ℕ) → ((k : ℕ) → refusal b k ≡ false) ↔ InLimits b
 unfolding refusal
 limits-exact b = (to, from)
@@ -288,6 +292,7 @@ limits-exact b = (to, from)
     from r (suc (suc (suc (suc (suc (suc (suc (suc (suc zero))))))))) = total-right b .1 (r .actions-total)
     from r (suc (suc (suc (suc (suc (suc (suc (suc (suc (suc k)))))))))) = refl
 
+-- the tables of a sheet in limits are in order
 pub limits-order : (b : List ℕ) → InLimits b → InOrder (tables b)
 unfolding tables tablesOf
 limits-order b r =
@@ -304,10 +309,10 @@ limits-order b r =
 
 -- ---- what the shortest and the longest sheet are made of
 
--- one component and nothing else
+-- R1, L7: one component and nothing else
 pub shortest-sheet : shortest ≡ recordSize + trailerSize
 shortest-sheet = refl
 
--- as many components, transitions and steps as there may be
+-- R1, L7: as many components, transitions and steps as there may be
 pub longest-sheet : longest ≡ recordSize * mostComponents + transitionSize * mostTransitions + stepSize * mostSteps + trailerSize
 longest-sheet = refl

@@ -1,4 +1,4 @@
--- A number and its bytes give each other back, and so do a run of bytes and its parts of one size;
+-- S1: a number and its bytes give each other back, and so do a run of bytes and its parts of one size;
 -- what is made of bytes by joining and cutting is bytes. A field is split in two, and is the same read in a part of the list.
 -- Assumes nothing.
 use mathlib.Core.Path.{_≡_, refl, sym, ap, ap₂, _∙_, subst}
@@ -56,6 +56,7 @@ pub bytes-are : (k x : ℕ) → AreBytes (bytes k x)
 bytes-are zero x = bytes-nil
 bytes-are (suc k) x = bytes-cons (x % 256) (bytes k (x / 256)) (omega arith) (bytes-are k (x / 256))
 
+-- S1: the bytes of a number are read as that number
 pub number-bytes : (k x : ℕ) → x < 256 ^ k → number (bytes k x) ≡ x
 number-bytes zero x h = omega arith
 number-bytes (suc k) x h =
@@ -63,6 +64,7 @@ number-bytes (suc k) x h =
     let e = number-bytes k (x / 256) less in
     omega arith
 
+-- S1: bytes are those of the number as which they are read
 pub bytes-number : (b : List ℕ) → AreBytes b → bytes (length b) (number b) ≡ b
 bytes-number [] h = refl
 bytes-number (d ∷ b) h =

@@ -1,4 +1,4 @@
--- Refusals 1 to 9 in the printed order, before whatever the steps give: a sheet stops at one of them or passes them all.
+-- O1: refusals 1 to 9 in the printed order, before whatever the steps give: a sheet stops at one of them or passes them all.
 -- What a reader that looks at them one after another knows.
 -- Assumes nothing.
 use mathlib.Core.Path.{_≡_, refl}

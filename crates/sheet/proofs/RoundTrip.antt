@@ -1,4 +1,4 @@
--- A written sheet reads back as what was written, a sheet in limits is what is written from what it reads as,
+-- S2 to S7, N9: a written sheet reads back as what was written, a sheet in limits is what is written from what it reads as,
 -- and so two written sheets are equal only where all that was written is equal.
 -- Assumes nothing.
 use mathlib.Core.Path.{_≡_, refl, sym, ap, ap₂, _∙_, subst}
@@ -113,6 +113,7 @@ module _ (before : List ℕ) (n m : ℕ) (xs : List ℕ) where
       let behind = ap (λ (j : ℕ). drop j (sheetOf before n m xs)) (read-steps-at h) ∙ drop-at before (stepBytes xs ++ t) (length before) refl in
       ap₂ (λ (k : ℕ) (l : List ℕ). map number (parts 8 k l)) (read-step-count h) behind ∙ numbers-back 8 xs t small
 
+  -- S2 to S7, N9: a written sheet reads back as what was written
   pub reads-back : length before < 65536 → n < 256 → ((x : ℕ) → List·Memᴰ x xs → x < 2 ^ 64) → ReadsBack before n m xs
   reads-back h c small =
       record {
@@ -186,6 +187,7 @@ trailer-read b h long r t c =
     let from-T = ap₂ (λ (x : ℕ) (l : List ℕ). bytes 2 x ++ l) (sym t) from-S ∙ field-cut (L - 8) 2 (L - 6) b h (omega arith) (omega arith) in
     ap₂ (λ (x : ℕ) (l : List ℕ). bytes 2 x ++ l) (sym r) from-T ∙ field-cut (L - 10) 2 (L - 8) b h (omega arith) (omega arith)
 
+-- S7: as many steps are read as the step count says
 pub steps-length : (b : List ℕ) → length (steps b) ≡ stepCount b
 unfolding steps
 steps-length b = length-map (parts 8 (stepCount b) (drop (stepsAt b) b)) number ∙ parts-length 8 (stepCount b) (drop (stepsAt b) b)
@@ -210,6 +212,7 @@ sections-joined b l =
     ∙ ap (λ (q : List ℕ). take S b ++ q) (take-append-drop size (drop S b))
     ∙ take-append-drop S b
 
+-- S2 to S7, N9: a sheet in limits is what is written from what it reads as
 pub writes-back : (b : List ℕ) → AreBytes b → InLimits b → sheetOf (front b) (componentCount b) (actionCount b) (steps b) ≡ b
 unfolding sheetOf front steps
 writes-back b h l =

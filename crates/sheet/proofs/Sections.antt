@@ -1,5 +1,5 @@
--- The steps of a step section: how many there are, each as it is read from its 8 bytes, and their actions step by step. The alphabets of
--- records, read one by one.
+-- The steps of a step section: how many there are, each as it is read from its 8 bytes (S5), and their actions step by step (N2). The
+-- alphabets of records, read one by one (S3).
 -- Assumes nothing.
 use mathlib.Core.Path.{_≡_, refl, sym, ap, ap₂, _∙_}
 use mathlib.Core.List.{List, [], _++_}

@@ -1,5 +1,5 @@
 -- O1: the verdict is the first refusal in the printed order, or accepted when none holds, and it is the only such verdict.
--- A sheet is accepted exactly when it is in limits and no step has a fault.
+-- N1: a sheet is accepted exactly when it is in limits and no step has a fault.
 -- Assumes nothing.
 use mathlib.Core.Path.{_≡_, refl, sym, ap, _∙_, subst}
 use mathlib.Core.Logic.{_↔_, _≢_, inl, inr}
@@ -11,7 +11,7 @@ use native.Mathlib.Nat.{eq-or-lt-of-le, le-of-suc-le-suc}
 use native.Mathlib.Decide.{decLt}
 use native.Mathlib.Omega.{arith}
 use lib.ListN.{length, getD}
-use Rattle.sets.proofs.Bools.{clash, eqb-false}
+use Rattle.sets.proofs.Bools.{not-both, eqb-false}
 use Rattle.systems.specs.Tables.{Tables}
 use Rattle.systems.specs.Running.{Held, start}
 use Rattle.systems.specs.Checking.{faulty, Fault, firstFault, heldBefore}
@@ -26,8 +26,8 @@ use Rattle.sheet.proofs.Limits.{limits-exact}
 faulty-number : (T : Tables) (H : Held) (x k : ℕ) → faulty T H x k ≡ true → (10 ≤ k) × (k ≤ 12)
 unfolding faulty
 faulty-number T H x k e =
-    let low : ¬ (k < 10) = λ l. clash e (other (omega arith) (omega arith) (omega arith)) in
-    let high : ¬ (12 < k) = λ l. clash e (other (omega arith) (omega arith) (omega arith)) in
+    let low : ¬ (k < 10) = λ l. not-both e (other (omega arith) (omega arith) (omega arith)) in
+    let high : ¬ (12 < k) = λ l. not-both e (other (omega arith) (omega arith) (omega arith)) in
     omega arith
   where
     other : k ≢ 10 → k ≢ 11 → k ≢ 12 → faulty T H x k ≡ false
@@ -55,8 +55,8 @@ refusal-behind b k h =
 
 refusal-number : (b : List ℕ) (k : ℕ) → refusal b k ≡ true → (1 ≤ k) × (k ≤ 9)
 refusal-number b k e =
-    let low : ¬ (k ≡ 0) = λ q. clash (ap (refusal b) (sym q) ∙ e) (refusal-zero b) in
-    let high : ¬ (9 < k) = λ l. clash e (refusal-behind b k l) in
+    let low : ¬ (k ≡ 0) = λ q. not-both (ap (refusal b) (sym q) ∙ e) (refusal-zero b) in
+    let high : ¬ (9 < k) = λ l. not-both e (refusal-behind b k l) in
     omega arith
 
 all-nine : (b : List ℕ) → NoRefusalBelow b 10 → (k : ℕ) → refusal b k ≡ false
@@ -78,6 +78,7 @@ steps-first b before = go (firstFault (tables b) (start (tables b)) 0 (steps b))
     go none e = all-passed before (no-fault (tables b) (start (tables b)) (steps b) .0 e)
     go (some f) e = step-refused f before (first-fault (tables b) (start (tables b)) (steps b) f .0 e)
 
+-- O1, O2: the verdict is the first refusal in the printed order, or accepted where none holds
 pub verdict-first : (b : List ℕ) → IsVerdict b (verdict b)
 unfolding verdict refusal
 verdict-first b =
@@ -97,26 +98,28 @@ verdict-first b =
 
 same-verdict : (b : List ℕ) {v w : Verdict} → IsVerdict b v → IsVerdict b w → v ≡ w
 same-verdict b (sheet-refused k e before) (sheet-refused l d earlier) =
-    let low : ¬ (k < l) = λ h. clash e (earlier k h) in
-    let high : ¬ (l < k) = λ h. clash d (before l h) in
+    let low : ¬ (k < l) = λ h. not-both e (earlier k h) in
+    let high : ¬ (l < k) = λ h. not-both d (before l h) in
     ap (λ (n : ℕ). refused n 0) (omega arith)
-same-verdict b (sheet-refused k e before) (step-refused g passed g-first) = absurd (clash e (passed k))
-same-verdict b (sheet-refused k e before) (all-passed passed faultless) = absurd (clash e (passed k))
-same-verdict b (step-refused f passed f-first) (sheet-refused l d earlier) = absurd (clash d (passed l))
+same-verdict b (sheet-refused k e before) (step-refused g passed g-first) = absurd (not-both e (passed k))
+same-verdict b (sheet-refused k e before) (all-passed passed faultless) = absurd (not-both e (passed k))
+same-verdict b (step-refused f passed f-first) (sheet-refused l d earlier) = absurd (not-both d (passed l))
 same-verdict b (step-refused f passed f-first) (step-refused g passed′ g-first) =
     ap ofFault (sym (first-fault (tables b) (start (tables b)) (steps b) f .1 f-first) ∙ first-fault (tables b) (start (tables b)) (steps b) g .1 g-first)
 same-verdict b (step-refused f passed f-first) (all-passed passed′ faultless) =
-    absurd (clash (f-first .holds) (faultless (f .index) (f-first .step-below) (f .number)))
-same-verdict b (all-passed passed faultless) (sheet-refused l d earlier) = absurd (clash d (passed l))
+    absurd (not-both (f-first .holds) (faultless (f .index) (f-first .step-below) (f .number)))
+same-verdict b (all-passed passed faultless) (sheet-refused l d earlier) = absurd (not-both d (passed l))
 same-verdict b (all-passed passed faultless) (step-refused g passed′ g-first) =
-    absurd (clash (g-first .holds) (faultless (g .index) (g-first .step-below) (g .number)))
+    absurd (not-both (g-first .holds) (faultless (g .index) (g-first .step-below) (g .number)))
 same-verdict b (all-passed passed faultless) (all-passed passed′ faultless′) = refl
 
+-- O1, O2: nothing else is
 pub verdict-only : (b : List ℕ) (v : Verdict) → IsVerdict b v → v ≡ verdict b
 verdict-only b v h = same-verdict b h (verdict-first b)
 
 -- ---- accepted sheets, and the numbers of a refusal
 
+-- N1: accepted exactly when the sheet is in limits and the steps have no fault
 pub accepted-exact : (b : List ℕ) → Accepted b ↔ (InLimits b × (firstFault (tables b) (start (tables b)) 0 (steps b) ≡ none))
 accepted-exact b = (λ e. to (subst (IsVerdict b) e (verdict-first b)), from)
   where
@@ -126,7 +129,7 @@ accepted-exact b = (λ e. to (subst (IsVerdict b) e (verdict-first b)), from)
     from : InLimits b × (firstFault (tables b) (start (tables b)) 0 (steps b) ≡ none) → Accepted b
     from h = sym (verdict-only b accepted (all-passed (limits-exact b .1 (h .0)) (no-fault (tables b) (start (tables b)) (steps b) .0 (h .1))))
 
--- a refusal's number is 1 to 12; its index is 0 up to 9, and from 10 on that of a step
+-- O4: a refusal's number is 1 to 12; its index is 0 up to 9, and from 10 on that of a step
 pub verdict-number : (b : List ℕ) (k i : ℕ) → verdict b ≡ refused k i
     → (1 ≤ k) × (k ≤ 12) × (k ≤ 9 → i ≡ 0) × (10 ≤ k → i < length (steps b))
 verdict-number b k i e = go (verdict-first b) e

@@ -1,4 +1,5 @@
--- Worked sheets, byte for byte, one or more for each refusal: a sheet that is accepted, and what becomes of it when some bytes are changed.
+-- Worked sheets, byte for byte, one or more for each refusal (R1 to R12, O1 to O4): a sheet that is accepted, and what becomes of it when
+-- some bytes are changed.
 -- For any two refusals that follow each other there is a sheet of which both hold. Both sides of every limit stand in LimitCases.
 -- Assumes nothing.
 use mathlib.Core.Path.{_≡_}

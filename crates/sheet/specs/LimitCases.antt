@@ -1,5 +1,5 @@
--- Both sides of each limit, as worked sheets with their verdict: what is just within is accepted, or refused by a later number where a whole
--- sheet would be too large to write down; what is just beyond is refused by the limit's own number.
+-- Both sides of each limit (L1 to L7), as worked sheets with their verdict: what is just within is accepted, or refused by a later number
+-- where a whole sheet would be too large to write down; what is just beyond is refused by the limit's own number (R1, R3, R4, R5 or R9).
 -- Assumes nothing.
 use mathlib.Core.List.{List, [], _∷_, _++_, replicate}
 use Prim.Native.Nat.{ℕ}
@@ -9,12 +9,12 @@ use Rattle.sheet.specs.Verdict.{Verdict, accepted, refused}
 use Rattle.sheet.specs.Cases.{changed}
 
 -- a sheet and its verdict
-pub record Side : Type 0 where
+pub record LimitCase : Type 0 where
   pub given : List ℕ
   pub due : Verdict
 
-abbrev pub side : List ℕ → Verdict → Side
-side b v = record { given = b; due = v }
+abbrev pub limitCase : List ℕ → Verdict → LimitCase
+limitCase b v = record { given = b; due = v }
 
 -- one state, initial, and the action 0
 abbrev pub smallRecord : List ℕ
@@ -56,40 +56,40 @@ widest =
     ∷ 0 ∷ 0 ∷ 0 ∷ 1 ∷ 8 ∷ 1 ∷ 16 ∷ 64 ∷ 0x46 ∷ 0x53
     ∷ [])
 
-abbrev pub limitCases : List Side
+abbrev pub limitCases : List LimitCase
 limitCases =
     -- 26 bytes, and 25
-    side smallest accepted
-    ∷ side (drop 1 smallest) (refused 1 0)
+    limitCase smallest accepted
+    ∷ limitCase (drop 1 smallest) (refused 1 0)
     -- 16,650 bytes, and 16,651
-    ∷ side (replicate 16650 0) (refused 2 0)
-    ∷ side (replicate 16651 0) (refused 1 0)
+    ∷ limitCase (replicate 16650 0) (refused 2 0)
+    ∷ limitCase (replicate 16651 0) (refused 1 0)
     -- component 15, state 31 and action 63
-    ∷ side widest accepted
+    ∷ limitCase widest accepted
     -- no component; 16, and 17
-    ∷ side (changed 22 0 smallest) (refused 3 0)
-    ∷ side (appendAll (replicate 16 smallRecord) ++ trailerOf 0 1 0 1 16 1) accepted
-    ∷ side (appendAll (replicate 17 smallRecord) ++ trailerOf 16 1 16 1 17 1) (refused 3 0)
+    ∷ limitCase (changed 22 0 smallest) (refused 3 0)
+    ∷ limitCase (appendAll (replicate 16 smallRecord) ++ trailerOf 0 1 0 1 16 1) accepted
+    ∷ limitCase (appendAll (replicate 17 smallRecord) ++ trailerOf 16 1 16 1 17 1) (refused 3 0)
     -- an internal transition of component 0, and of component 1, where there is one component
-    ∷ side (smallRecord ++ (0 ∷ 0 ∷ 255 ∷ 0 ∷ trailerOf 16 0 20 0 1 1)) accepted
-    ∷ side (smallRecord ++ (1 ∷ 0 ∷ 255 ∷ 0 ∷ trailerOf 16 0 20 0 1 1)) (refused 7 0)
+    ∷ limitCase (smallRecord ++ (0 ∷ 0 ∷ 255 ∷ 0 ∷ trailerOf 16 0 20 0 1 1)) accepted
+    ∷ limitCase (smallRecord ++ (1 ∷ 0 ∷ 255 ∷ 0 ∷ trailerOf 16 0 20 0 1 1)) (refused 7 0)
     -- no action; 64, and 65; the action 63 where there are 63
-    ∷ side (changed 23 0 smallest) (refused 3 0)
-    ∷ side (full []) accepted
-    ∷ side (changed 23 65 (full [])) (refused 3 0)
-    ∷ side (changed 23 63 (full [])) (refused 5 0)
+    ∷ limitCase (changed 23 0 smallest) (refused 3 0)
+    ∷ limitCase (full []) accepted
+    ∷ limitCase (changed 23 65 (full [])) (refused 3 0)
+    ∷ limitCase (changed 23 63 (full [])) (refused 5 0)
     -- no state; 32, and 33; the state 31 where there are 31
-    ∷ side (changed 0 0 smallest) (refused 5 0)
-    ∷ side (changed 0 32 smallest) accepted
-    ∷ side (changed 0 33 smallest) (refused 5 0)
-    ∷ side (changed 0 31 (full [])) (refused 5 0)
+    ∷ limitCase (changed 0 0 smallest) (refused 5 0)
+    ∷ limitCase (changed 0 32 smallest) accepted
+    ∷ limitCase (changed 0 33 smallest) (refused 5 0)
+    ∷ limitCase (changed 0 31 (full [])) (refused 5 0)
     -- 2,048 transitions, and 2,049, behind a record of zeros
-    ∷ side (replicate 8208 0 ++ trailerOf 16 0 16 32 1 1) (refused 5 0)
-    ∷ side (replicate 8212 0 ++ trailerOf 16 0 20 32 1 1) (refused 4 0)
+    ∷ limitCase (replicate 8208 0 ++ trailerOf 16 0 16 32 1 1) (refused 5 0)
+    ∷ limitCase (replicate 8212 0 ++ trailerOf 16 0 20 32 1 1) (refused 4 0)
     -- 1,024 steps, and 1,025, behind a record of zeros
-    ∷ side (replicate 8208 0 ++ trailerOf 16 0 16 0 1 1) (refused 5 0)
-    ∷ side (replicate 8216 0 ++ trailerOf 16 0 16 0 1 1) (refused 4 0)
+    ∷ limitCase (replicate 8208 0 ++ trailerOf 16 0 16 0 1 1) (refused 5 0)
+    ∷ limitCase (replicate 8216 0 ++ trailerOf 16 0 16 0 1 1) (refused 4 0)
     -- 1,024 actions in 16 steps of all 64, and one more
-    ∷ side (full (replicate 128 255)) (refused 11 0)
-    ∷ side (full (1 ∷ 0 ∷ 0 ∷ 0 ∷ 0 ∷ 0 ∷ 0 ∷ 0 ∷ replicate 128 255)) (refused 9 0)
+    ∷ limitCase (full (replicate 128 255)) (refused 11 0)
+    ∷ limitCase (full (1 ∷ 0 ∷ 0 ∷ 0 ∷ 0 ∷ 0 ∷ 0 ∷ 0 ∷ replicate 128 255)) (refused 9 0)
     ∷ []

@@ -1,4 +1,4 @@
--- Numbers as bytes, and a run of bytes cut into parts of one size.
+-- S1: numbers as bytes, and a run of bytes cut into parts of one size.
 -- Assumes nothing.
 use mathlib.Core.List.{List, [], _∷_}
 use Prim.Native.Nat.{ℕ, zero, suc, _+_, _*_, _/_, _%_, _<_}

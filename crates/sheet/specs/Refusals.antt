@@ -18,11 +18,11 @@ abbrev pub outside : ℕ → ℕ → ℕ → Bool
 outside low high x = ltb x low || ltb high x
 
 -- two byte strings are the same
-abbrev pub sameBytes : List ℕ → List ℕ → Bool
-sameBytes [] [] = true
-sameBytes [] (y ∷ ys) = false
-sameBytes (x ∷ xs) [] = false
-sameBytes (x ∷ xs) (y ∷ ys) = eqb x y && sameBytes xs ys
+abbrev pub sameNumbers : List ℕ → List ℕ → Bool
+sameNumbers [] [] = true
+sameNumbers [] (y ∷ ys) = false
+sameNumbers (x ∷ xs) [] = false
+sameNumbers (x ∷ xs) (y ∷ ys) = eqb x y && sameNumbers xs ys
 
 -- R1: the sheet is too short or too long (L7)
 unfoldable pub lengthWrong : List ℕ → Bool
@@ -30,7 +30,7 @@ lengthWrong b = outside shortest longest (length b)
 
 -- R2: the sheet does not end in the closing mark
 unfoldable pub markWrong : List ℕ → Bool
-markWrong b = not (sameBytes (closing b) mark)
+markWrong b = not (sameNumbers (closing b) mark)
 
 -- R3: too few or too many components (L1) or actions (L2)
 unfoldable pub countsWrong : List ℕ → Bool

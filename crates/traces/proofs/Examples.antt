@@ -1,5 +1,6 @@
 -- Closed examples over one dependence test: the actions 0 to 3 in a row, each dependent on itself and its neighbours.
--- Words and their normal forms in one table, by computing; swaps and the process condition, each with a case that it refuses.
+-- Words and their normal forms (N8) in one table, by computing; swaps (Q9) and the process condition (N6, N7), each with a case that it
+-- refuses.
 -- Assumes nothing.
 use mathlib.Core.Path.{_≡_, refl}
 use mathlib.Core.Bool.{Bool, true, false, _&&_, true≢false, false≢true}
@@ -14,32 +15,32 @@ use Rattle.traces.specs.Foata.{foata}
 abbrev neighbours : ℕ → ℕ → Bool
 neighbours a b = leb a (suc b) && leb b (suc a)
 
-record Case : Type 0 where
+record Example : Type 0 where
   word : List ℕ
   form : List (List ℕ)
 
-abbrev case : List ℕ → List (List ℕ) → Case
-case w ss = record { word = w; form = ss }
+abbrev example : List ℕ → List (List ℕ) → Example
+example w ss = record { word = w; form = ss }
 
-abbrev cases : List Case
-cases =
-    case [] []
-    ∷ case (3 ∷ []) ((3 ∷ []) ∷ [])
+abbrev examples : List Example
+examples =
+    example [] []
+    ∷ example (3 ∷ []) ((3 ∷ []) ∷ [])
     -- independent actions share a step, in rising number
-    ∷ case (0 ∷ 2 ∷ []) ((0 ∷ 2 ∷ []) ∷ [])
-    ∷ case (2 ∷ 0 ∷ []) ((0 ∷ 2 ∷ []) ∷ [])
+    ∷ example (0 ∷ 2 ∷ []) ((0 ∷ 2 ∷ []) ∷ [])
+    ∷ example (2 ∷ 0 ∷ []) ((0 ∷ 2 ∷ []) ∷ [])
     -- dependent ones keep their order
-    ∷ case (0 ∷ 1 ∷ []) ((0 ∷ []) ∷ (1 ∷ []) ∷ [])
-    ∷ case (1 ∷ 0 ∷ []) ((1 ∷ []) ∷ (0 ∷ []) ∷ [])
-    ∷ case (1 ∷ 2 ∷ 0 ∷ []) ((1 ∷ []) ∷ (0 ∷ 2 ∷ []) ∷ [])
+    ∷ example (0 ∷ 1 ∷ []) ((0 ∷ []) ∷ (1 ∷ []) ∷ [])
+    ∷ example (1 ∷ 0 ∷ []) ((1 ∷ []) ∷ (0 ∷ []) ∷ [])
+    ∷ example (1 ∷ 2 ∷ 0 ∷ []) ((1 ∷ []) ∷ (0 ∷ 2 ∷ []) ∷ [])
     -- the last dependent action bars, not the first
-    ∷ case (1 ∷ 2 ∷ 1 ∷ []) ((1 ∷ []) ∷ (2 ∷ []) ∷ (1 ∷ []) ∷ [])
+    ∷ example (1 ∷ 2 ∷ 1 ∷ []) ((1 ∷ []) ∷ (2 ∷ []) ∷ (1 ∷ []) ∷ [])
     -- an action leaves the last step for an earlier one, and passes as many as it can
-    ∷ case (0 ∷ 1 ∷ 3 ∷ []) ((0 ∷ 3 ∷ []) ∷ (1 ∷ []) ∷ [])
-    ∷ case (0 ∷ 1 ∷ 0 ∷ 3 ∷ []) ((0 ∷ 3 ∷ []) ∷ (1 ∷ []) ∷ (0 ∷ []) ∷ [])
+    ∷ example (0 ∷ 1 ∷ 3 ∷ []) ((0 ∷ 3 ∷ []) ∷ (1 ∷ []) ∷ [])
+    ∷ example (0 ∷ 1 ∷ 0 ∷ 3 ∷ []) ((0 ∷ 3 ∷ []) ∷ (1 ∷ []) ∷ (0 ∷ []) ∷ [])
     ∷ []
 
-pub forms : map (λ c. foata neighbours (c .word)) cases ≡ map (λ c. c .form) cases
+pub forms : map (λ c. foata neighbours (c .word)) examples ≡ map (λ c. c .form) examples
 forms = refl
 
 -- ---- swaps

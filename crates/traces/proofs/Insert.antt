@@ -10,34 +10,34 @@ use native.Mathlib.Omega.{arith}
 use lib.Dec.{leb}
 use lib.ListN.{length}
 use Rattle.sets.specs.Lists.{anyOf, allOf, Rising, RisingAbove}
-use Rattle.sets.proofs.Bools.{clash as both-ways, or-false, or-left-comm, and-left-comm, leb-true, leb-false}
+use Rattle.sets.proofs.Bools.{not-both, or-false, or-left-comm, and-left-comm, leb-true, leb-false}
 use Rattle.traces.specs.Words.{Dependence}
 use Rattle.traces.specs.Steps.{clash}
 use Rattle.traces.specs.Foata.{insertSorted}
 
 -- the two cases of an insertion
-pub data Case (a b : ℕ) (s : List ℕ) : Type 0 where
-  near : a ≤ b → insertSorted a (b ∷ s) ≡ a ∷ b ∷ s → Case a b s
-  far : b < a → insertSorted a (b ∷ s) ≡ b ∷ insertSorted a s → Case a b s
+pub data NearOrFar (a b : ℕ) (s : List ℕ) : Type 0 where
+  near : a ≤ b → insertSorted a (b ∷ s) ≡ a ∷ b ∷ s → NearOrFar a b s
+  far : b < a → insertSorted a (b ∷ s) ≡ b ∷ insertSorted a s → NearOrFar a b s
 
-pub case : (a b : ℕ) (s : List ℕ) → Case a b s
-case a b s = go (leb a b) refl
+pub near-or-far : (a b : ℕ) (s : List ℕ) → NearOrFar a b s
+near-or-far a b s = go (leb a b) refl
   where
-    go : (t : Bool) → leb a b ≡ t → Case a b s
+    go : (t : Bool) → leb a b ≡ t → NearOrFar a b s
     go true e = near (leb-true a b .0 e) (ap (λ (t : Bool). cond t (a ∷ b ∷ s) (b ∷ insertSorted a s)) e)
     go false e = far (leb-false a b .0 e) (ap (λ (t : Bool). cond t (a ∷ b ∷ s) (b ∷ insertSorted a s)) e)
 
 pub insertSorted-below : (a b : ℕ) (s : List ℕ) → a ≤ b → insertSorted a (b ∷ s) ≡ a ∷ b ∷ s
-insertSorted-below a b s h = elim (case a b s) [ near _ e ↦ e | far l _ ↦ absurd (omega arith) ]
+insertSorted-below a b s h = elim (near-or-far a b s) [ near _ e ↦ e | far l _ ↦ absurd (omega arith) ]
 
 insertSorted-above : (a b : ℕ) (s : List ℕ) → b < a → insertSorted a (b ∷ s) ≡ b ∷ insertSorted a s
-insertSorted-above a b s h = elim (case a b s) [ near l _ ↦ absurd (omega arith) | far _ e ↦ e ]
+insertSorted-above a b s h = elim (near-or-far a b s) [ near l _ ↦ absurd (omega arith) | far _ e ↦ e ]
 
 -- two actions that both come first in a step
 insertSorted-two : (a b : ℕ) (s : List ℕ) → insertSorted a s ≡ a ∷ s → insertSorted b s ≡ b ∷ s → insertSorted a (b ∷ s) ≡ insertSorted b (a ∷ s)
-insertSorted-two a b s p q = go (case a b s) (case b a s)
+insertSorted-two a b s p q = go (near-or-far a b s) (near-or-far b a s)
   where
-    go : Case a b s → Case b a s → insertSorted a (b ∷ s) ≡ insertSorted b (a ∷ s)
+    go : NearOrFar a b s → NearOrFar b a s → insertSorted a (b ∷ s) ≡ insertSorted b (a ∷ s)
     go (near h e) (near g f) = let same : a ≡ b = omega arith in cc
     go (near h e) (far g f) = cc
     go (far h e) (near g f) = cc
@@ -52,9 +52,9 @@ insertSorted-apart a b c s h g =
 
 pub insertSorted-comm : (a b : ℕ) (s : List ℕ) → insertSorted a (insertSorted b s) ≡ insertSorted b (insertSorted a s)
 insertSorted-comm a b [] = insertSorted-two a b [] refl refl
-insertSorted-comm a b (c ∷ s) = go (case a c s) (case b c s) (insertSorted-comm a b s)
+insertSorted-comm a b (c ∷ s) = go (near-or-far a c s) (near-or-far b c s) (insertSorted-comm a b s)
   where
-    go : Case a c s → Case b c s → insertSorted a (insertSorted b s) ≡ insertSorted b (insertSorted a s) → insertSorted a (insertSorted b (c ∷ s)) ≡ insertSorted b (insertSorted a (c ∷ s))
+    go : NearOrFar a c s → NearOrFar b c s → insertSorted a (insertSorted b s) ≡ insertSorted b (insertSorted a s) → insertSorted a (insertSorted b (c ∷ s)) ≡ insertSorted b (insertSorted a (c ∷ s))
     go (near h e) (near g f) r = ap (insertSorted a) f ∙ insertSorted-two a b (c ∷ s) e f ∙ ap (insertSorted b) (sym e)
     go (near h e) (far g f) r = insertSorted-apart a b c s h g
     go (far h e) (near g f) r = sym (insertSorted-apart b a c s g h)
@@ -63,9 +63,9 @@ insertSorted-comm a b (c ∷ s) = go (case a c s) (case b c s) (insertSorted-com
 -- what is gathered from a list in any order is gathered from the action and the step
 insertSorted-gathered : {B : Type 0} (h : List ℕ → B) (f : ℕ → B → B) → ((x : ℕ) (s : List ℕ) → h (x ∷ s) ≡ f x (h s)) → ((x y : ℕ) (z : B) → f x (f y z) ≡ f y (f x z)) → (a : ℕ) (s : List ℕ) → h (insertSorted a s) ≡ f a (h s)
 insertSorted-gathered h f step comm a [] = step a []
-insertSorted-gathered h f step comm a (b ∷ s) = go (case a b s) (insertSorted-gathered h f step comm a s)
+insertSorted-gathered h f step comm a (b ∷ s) = go (near-or-far a b s) (insertSorted-gathered h f step comm a s)
   where
-    go : Case a b s → h (insertSorted a s) ≡ f a (h s) → h (insertSorted a (b ∷ s)) ≡ f a (h (b ∷ s))
+    go : NearOrFar a b s → h (insertSorted a s) ≡ f a (h s) → h (insertSorted a (b ∷ s)) ≡ f a (h (b ∷ s))
     go (near l e) r = ap h e ∙ step a (b ∷ s)
     go (far l e) r = ap h e ∙ step b (insertSorted a s) ∙ ap (f b) r ∙ comm b a (h s) ∙ ap (f a) (sym (step b s))
 
@@ -81,33 +81,33 @@ insertSorted-length a s = insertSorted-gathered length (λ x n. suc n) (λ x t. 
 module _ (dep : ℕ → ℕ → Bool) (D : Dependence dep) where
   -- an action independent of a step is none of its actions
   other : (a b : ℕ) → dep a b ≡ false → a ≢ b
-  other a b e q = both-ways (ap (dep a) (sym q) ∙ D .reflexive a) e
+  other a b e q = not-both (ap (dep a) (sym q) ∙ D .reflexive a) e
 
   pub insertSorted-rising-above : (i a : ℕ) (s : List ℕ) → anyOf (dep a) s ≡ false → i < a → RisingAbove i s → RisingAbove i (insertSorted a s)
   insertSorted-rising-above i a [] e h r = (h, tt)
-  insertSorted-rising-above i a (b ∷ s) e h r = go (case a b s) (λ l. insertSorted-rising-above b a s (both .1) l (r .1))
+  insertSorted-rising-above i a (b ∷ s) e h r = go (near-or-far a b s) (λ l. insertSorted-rising-above b a s (both .1) l (r .1))
     where
       both : (dep a b ≡ false) × (anyOf (dep a) s ≡ false)
       both = or-false (dep a b) (anyOf (dep a) s) .0 e
 
-      go : Case a b s → (b < a → RisingAbove b (insertSorted a s)) → RisingAbove i (insertSorted a (b ∷ s))
+      go : NearOrFar a b s → (b < a → RisingAbove b (insertSorted a s)) → RisingAbove i (insertSorted a (b ∷ s))
       go (near l q) below = let ne = other a b (both .0) in rw q (h, (omega arith, r .1))
       go (far l q) below = rw q (r .0, below l)
 
   pub insertSorted-rising : (a : ℕ) (s : List ℕ) → anyOf (dep a) s ≡ false → Rising s → Rising (insertSorted a s)
   insertSorted-rising a [] e r = tt
-  insertSorted-rising a (b ∷ s) e r = go (case a b s)
+  insertSorted-rising a (b ∷ s) e r = go (near-or-far a b s)
     where
       both : (dep a b ≡ false) × (anyOf (dep a) s ≡ false)
       both = or-false (dep a b) (anyOf (dep a) s) .0 e
 
-      go : Case a b s → Rising (insertSorted a (b ∷ s))
+      go : NearOrFar a b s → Rising (insertSorted a (b ∷ s))
       go (near l q) = let ne = other a b (both .0) in rw q (omega arith, r)
       go (far l q) = rw q (insertSorted-rising-above b a s (both .1) l r)
 
   pub insertSorted-clash : (a : ℕ) (s : List ℕ) → anyOf (dep a) s ≡ false → clash dep s ≡ false → clash dep (insertSorted a s) ≡ false
   insertSorted-clash a [] e c = refl
-  insertSorted-clash a (b ∷ s) e c = go (case a b s) (insertSorted-clash a s (both .1) (rest .1))
+  insertSorted-clash a (b ∷ s) e c = go (near-or-far a b s) (insertSorted-clash a s (both .1) (rest .1))
     where
       both : (dep a b ≡ false) × (anyOf (dep a) s ≡ false)
       both = or-false (dep a b) (anyOf (dep a) s) .0 e
@@ -115,6 +115,6 @@ module _ (dep : ℕ → ℕ → Bool) (D : Dependence dep) where
       rest : (anyOf (dep b) s ≡ false) × (clash dep s ≡ false)
       rest = or-false (anyOf (dep b) s) (clash dep s) .0 c
 
-      go : Case a b s → clash dep (insertSorted a s) ≡ false → clash dep (insertSorted a (b ∷ s)) ≡ false
+      go : NearOrFar a b s → clash dep (insertSorted a s) ≡ false → clash dep (insertSorted a (b ∷ s)) ≡ false
       go (near l q) r = rw (q, e, rest .0, rest .1)
       go (far l q) r = rw (q, anyOf-insertSorted (dep b) a s, D .symmetric b a, both .0, rest .0, r)

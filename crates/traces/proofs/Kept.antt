@@ -1,4 +1,4 @@
--- Placing an action keeps the trace: the word read off the steps is related to the word placed.
+-- N8: placing an action keeps the trace: the word read off the steps is related to the word placed.
 -- It keeps steps steps, and keeps the process condition.
 -- Assumes nothing.
 use mathlib.Core.Path.{_≡_, refl, ap}
@@ -14,18 +14,18 @@ use Rattle.traces.specs.Words.{Dependence, here, Related, unchanged, swa
 use Rattle.traces.specs.Steps.{Step, Steps, FollowFrom, Process}
 use Rattle.traces.specs.Foata.{insertSorted, putAt, reach, place, placeAll}
 use Rattle.traces.proofs.Swaps.{related-sym, related-trans, related-later, related-before, related-behind, pass-related}
-use Rattle.traces.proofs.Insert.{Case, near, far, case, anyOf-insertSorted, allOf-insertSorted, insertSorted-length, insertSorted-rising, insertSorted-clash}
+use Rattle.traces.proofs.Insert.{NearOrFar, near, far, near-or-far, anyOf-insertSorted, allOf-insertSorted, insertSorted-length, insertSorted-rising, insertSorted-clash}
 use Rattle.traces.proofs.Reach.{further-down, further-later, further-first, further-le, reach-le, reach-none}
 
 module _ (dep : ℕ → ℕ → Bool) (D : Dependence dep) where
   pub insertSorted-related : (a : ℕ) (s : List ℕ) → anyOf (dep a) s ≡ false → Related dep (a ∷ s) (insertSorted a s)
   insertSorted-related a [] e = unchanged
-  insertSorted-related a (b ∷ s) e = go (case a b s) (insertSorted-related a s (both .1))
+  insertSorted-related a (b ∷ s) e = go (near-or-far a b s) (insertSorted-related a s (both .1))
     where
       both : (dep a b ≡ false) × (anyOf (dep a) s ≡ false)
       both = or-false (dep a b) (anyOf (dep a) s) .0 e
 
-      go : Case a b s → Related dep (a ∷ s) (insertSorted a s) → Related dep (a ∷ b ∷ s) (insertSorted a (b ∷ s))
+      go : NearOrFar a b s → Related dep (a ∷ s) (insertSorted a s) → Related dep (a ∷ b ∷ s) (insertSorted a (b ∷ s))
       go (near l q) r = rw q unchanged
       go (far l q) r = rw q (swap (here (both .0)) (related-later dep D b r))
 

@@ -1,4 +1,4 @@
--- The Foata normal form: two words have the same one exactly when they are related.
+-- N8: the Foata normal form: two words have the same one exactly when they are related.
 -- It is the one list of steps of the trace that meets the process condition, and no other has fewer steps.
 -- Assumes nothing.
 use mathlib.Core.Path.{_≡_, refl, sym, _∙_, ap}
@@ -17,7 +17,7 @@ use Rattle.traces.proofs.Kept.{placeAll-related, placeAll-steps, placeA
 use Rattle.traces.proofs.WholeSteps.{steps-length, step-rebuilt, steps-rebuilt}
 
 module _ (dep : ℕ → ℕ → Bool) (D : Dependence dep) where
-  -- the normal form is of the word's own trace
+  -- N8, N5: the normal form is of the word's own trace
   pub foata-related : (w : List ℕ) → Related dep w (appendAll (foata dep w))
   foata-related w = placeAll-related dep D [] w
 
@@ -32,11 +32,11 @@ module _ (dep : ℕ → ℕ → Bool) (D : Dependence dep) where
   pub foata-steps : (w : List ℕ) → Steps dep (foata dep w)
   foata-steps w = placeAll-steps dep D [] w tt
 
-  -- each action of a step depends on one of the step just before
+  -- N8, N6: each action of a step depends on one of the step just before
   pub foata-process : (w : List ℕ) → Process dep (foata dep w)
   foata-process w = placeAll-process dep D [] w tt
 
-  -- steps that meet the process condition are the normal form of their trace
+  -- N8: steps that meet the process condition are the normal form of their trace
   pub foata-unique : (ss : List (List ℕ)) → Steps dep ss → Process dep ss → foata dep (appendAll ss) ≡ ss
   foata-unique [] S P = refl
   foata-unique (s ∷ ss) S P =
@@ -44,7 +44,7 @@ module _ (dep : ℕ → ℕ → Bool) (D : Dependence dep) where
       ∙ ap (λ (ts : List (List ℕ)). placeAll dep ts (appendAll ss)) (step-rebuilt dep D s (S .0))
       ∙ steps-rebuilt dep D [] s ss (S .1) P
 
-  -- no steps of the same trace are fewer
+  -- N8, D3: no steps of the same trace are fewer
   pub foata-fewest : (ss : List (List ℕ)) (w : List ℕ) → Steps dep ss → Related dep (appendAll ss) w → length (foata dep w) ≤ length ss
   foata-fewest ss w S r = rw (sym (related-foata r)) (omega (arith, steps-length dep D [] ss S))
 

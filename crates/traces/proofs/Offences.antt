@@ -1,4 +1,4 @@
--- The process check finds no step that offends exactly when the process condition holds, and otherwise the first one.
+-- N7: the process check finds no step that offends exactly when the process condition holds, and otherwise the first one.
 -- Assumes nothing.
 use mathlib.Core.Path.{_≡_, refl, sym, ap, _∙_}
 use mathlib.Core.Logic.{_↔_}
@@ -8,7 +8,7 @@ use mathlib.Core.Option.{Option, none, some}
 use Prim.Native.Nat.{ℕ, zero, suc, _+_, _<_}
 use native.Mathlib.Omega.{arith}
 use lib.ListN.{length, getD}
-use Rattle.sets.proofs.Bools.{clash}
+use Rattle.sets.proofs.Bools.{not-both}
 use Rattle.traces.specs.Steps.{follows, FollowFrom, Process}
 use Rattle.traces.specs.Offences.{offenceOr, offenceFrom, firstOffence, offending, IsFirstOffence}
 
@@ -29,7 +29,7 @@ module _ (dep : ℕ → ℕ → Bool) where
       go false e h = (
         λ n. let z : some i ≡ none = ap (λ (f : Bool). offenceOr f i (offenceFrom dep t (suc i) ts)) (sym e) ∙ n in
             let c : _≡_ {A = ℕ} 0 1 = cc in absurd (omega arith),
-        λ p. absurd (clash (p .0) e),
+        λ p. absurd (not-both (p .0) e),
       )
 
   from-some : (s : List ℕ) (i : ℕ) (ts : List (List ℕ)) (k : ℕ) → offenceFrom dep s i ts ≡ some k → (d : ℕ) × (k ≡ i + d) × At dep s ts d
@@ -63,10 +63,12 @@ module _ (dep : ℕ → ℕ → Bool) where
       (record { fits = (let f = a .fits in omega arith); offends = a .offends; earlier = λ l b. a .earlier (suc l) (omega arith) })
       ∙ ap some (omega arith))
 
+  -- N7: no step offends exactly when the process condition holds
   pub offence-none : (ss : List (List ℕ)) → (firstOffence dep ss ≡ none) ↔ Process dep ss
   offence-none [] = (λ e. tt, λ p. refl)
   offence-none (s ∷ ss) = from-none s 1 ss
 
+  -- N7: the index that is found is that of the first step that offends
   pub offence-first : (ss : List (List ℕ)) (i : ℕ) → (firstOffence dep ss ≡ some i) ↔ IsFirstOffence dep ss i
   offence-first [] i = (
     λ e. let z : _≡_ {A = ℕ} 0 1 = cc in absurd (omega arith),

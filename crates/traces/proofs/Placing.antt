@@ -1,4 +1,4 @@
--- Placing actions onto steps: independent ones commute, so related words give the same normal form.
+-- N8: placing actions onto steps: independent ones commute, so related words give the same normal form.
 -- How long the steps become, and where actions go that depend on the last of some steps.
 -- Assumes nothing.
 use mathlib.Core.Path.{_≡_, refl, _∙_, ap}

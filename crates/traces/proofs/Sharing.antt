@@ -1,4 +1,4 @@
--- A test that holds exactly of equal actions and of those that share something is what the theory asks of a dependence.
+-- N3: a test that holds exactly of equal actions and of those that share something is what the theory asks of a dependence.
 -- Assumes nothing.
 use mathlib.Core.Path.{_≡_, refl, sym}
 use mathlib.Core.Logic.{_↔_, _⊎_, inl, inr}

@@ -1,4 +1,4 @@
--- Relatedness is an equivalence and a congruence for putting words one behind another; it keeps the actions and their number.
+-- Q9, N5: relatedness is an equivalence and a congruence for putting words one behind another; it keeps the actions and their number.
 -- Any two orders of one independent step are related.
 -- Assumes nothing.
 use mathlib.Core.Path.{_≡_, refl, sym, _∙_, ap, subst}
@@ -8,7 +8,7 @@ use mathlib.Core.List.{List, [], _∷_, _++_, List·Memᴰ, List·Memᴰ·head, 
 use Prim.Native.Nat.{ℕ}
 use lib.ListN.{length}
 use Rattle.sets.specs.Lists.{anyOf, Distinct}
-use Rattle.sets.proofs.Bools.{clash as both-ways, or-false}
+use Rattle.sets.proofs.Bools.{not-both, or-false}
 use Rattle.sets.proofs.Lists.{anyOf-false}
 use Rattle.traces.specs.Words.{Dependence, Swap, here, later, Related, unchanged, swap}
 use Rattle.traces.specs.Steps.{clash}
@@ -121,7 +121,7 @@ module _ (dep : ℕ → ℕ → Bool) (D : Dependence dep) where
       there : (b : ℕ) → List·Memᴰ b u → List·Memᴰ b r
       there b m =
           elim (List·Memᴰ·cases-cons (related-mem (drawn .1) (same b .0 (List·Memᴰ·tail m)))) [
-            | inl q ↦ absurd (both-ways (ap (dep a) q ∙ D .reflexive a) (anyOf-false (dep a) u (both .0) m))
+            | inl q ↦ absurd (not-both (ap (dep a) q ∙ D .reflexive a) (anyOf-false (dep a) u (both .0) m))
             | inr n ↦ n
           ]
 

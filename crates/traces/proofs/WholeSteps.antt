@@ -1,4 +1,4 @@
--- Whole steps placed onto others: a step of independent actions makes them longer by at most one.
+-- N8: whole steps placed onto others: a step of independent actions makes them longer by at most one.
 -- Steps that meet the process condition are rebuilt.
 -- Assumes nothing.
 use mathlib.Core.Path.{_≡_, refl, sym, _∙_, ap}

@@ -1,4 +1,4 @@
--- The laws of lending: what the output is once a part of it, lent from its middle on, is back with a section written over it.
+-- N9, F4: the laws of lending: what the output is once a part of it, lent from its middle on, is back with a section written over it.
 -- Each takes what had been written before that section, so that sections add up; and the bytes of a number are its low ones and then its high ones.
 -- Assumes nothing.
 use mathlib.Core.Path.{_≡_, sym, ap, ap₂, _∙_}

@@ -3,6 +3,7 @@ ghost use mathlib.Core.Path.{_≡_};
 ghost use mathlib.Core.List.{_∷_, _++_};
 ghost use Prim.Native.Nat.{_+_, _*_, _<_, _≤_};
 ghost use lib.ListN.{length, take};
+ghost use Rattle.sheet.specs.Bounds.{stepSize, trailerSize, mostSteps};
 ghost use Rattle.sheet.specs.Numbers.{bytes};
 ghost use Rattle.sheet.specs.Layout.{mark};
 ghost use Rattle.sheet.specs.Writing.{stepBytes, trailer, sheetOf};
@@ -48,7 +49,7 @@ fn write_counts(n: u8, m: u8, out: &mut [u8])
 
 // Writes the trailer of a sheet whose steps begin at `s`.
 fn write_trailer(s: usize, n: u8, m: u8, out: &mut [u8])
-    requires { ⌜ (s < 65536) × (10 ≤ length (now out)) ⌝ }
+    requires { ⌜ (s < 65536) × (trailerSize ≤ length (now out)) ⌝ }
     ensures { λ _. ⌜ now (out .exit) ≡ over (trailer s n m) (now (out .entry)) ⌝ }
 {
     put2(0, out);
@@ -59,7 +60,7 @@ fn write_trailer(s: usize, n: u8, m: u8, out: &mut [u8])
 
 // Writes `count` steps, and lends the rest to the writer of the trailer.
 fn write_steps(packed: &[u64], count: usize, s: usize, n: u8, m: u8, out: &mut [u8])
-    requires { ⌜ (s < 65536) × (count ≤ length (now packed)) × (count ≤ 1024) × (8 * count + 10 ≤ length (now out)) ⌝ }
+    requires { ⌜ (s < 65536) × (count ≤ length (now packed)) × (count ≤ mostSteps) × (stepSize * count + trailerSize ≤ length (now out)) ⌝ }
     ensures { λ _. ⌜ now (out .exit) ≡ over (stepBytes (take count (now (packed .entry))) ++ trailer s n m) (now (out .entry)) ⌝ }
 {
     let mut k = 0;
@@ -72,8 +73,8 @@ fn write_steps(packed: &[u64], count: usize, s: usize, n: u8, m: u8, out: &mut [
 
 // N9, F4: writes a sheet: the bytes before its steps as they are; the rest of the output is then lent on, to be filled with the steps.
 pub fn write_sheet(front: &[u8], packed: &[u64], count: usize, n: u8, m: u8, out: &mut [u8])
-    requires { ⌜ (length (now front) < 65536) × (count ≤ length (now packed)) × (count ≤ 1024)
-        × (length (now front) + 8 * count + 10 ≤ length (now out)) ⌝ }
+    requires { ⌜ (length (now front) < 65536) × (count ≤ length (now packed)) × (count ≤ mostSteps)
+        × (length (now front) + stepSize * count + trailerSize ≤ length (now out)) ⌝ }
     ensures { λ _. ⌜ now (out .exit) ≡ over (sheetOf (now (front .entry)) n m (take count (now (packed .entry)))) (now (out .entry)) ⌝ }
 {
     let s = bytes::copy(front, out);

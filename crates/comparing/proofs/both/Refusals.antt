@@ -1,5 +1,5 @@
--- The refusals of two sheets given together, from the check of each: the first sheet's, the second's, then 14; and what is known of a pair
--- that passed.
+-- O6, O7: the refusals of two sheets given together, from the check of each: the first sheet's, the second's, then 14; and what is known of
+-- a pair that passed.
 -- Assumes nothing.
 use mathlib.Core.Path.{_≡_, refl, sym, ap, _∙_}
 use mathlib.Core.Logic.{inl, inr}
@@ -7,7 +7,7 @@ use mathlib.Core.Bool.{Bool, true, false}
 use mathlib.Core.List.{List, [], _∷_}
 use Prim.Native.Nat.{ℕ}
 use native.Mathlib.Omega.{arith}
-use Rattle.sets.proofs.Bools.{clash}
+use Rattle.sets.proofs.Bools.{not-both}
 use Rattle.sheet.specs.Layout.{componentCount, actionCount, transitionsAt, stepsAt}
 use Rattle.sheet.specs.Verdict.{Verdict, verdict, Accepted}
 use Rattle.answers.specs.declared.Sizes.{Sizes}
@@ -75,7 +75,7 @@ module _ (b c : List ℕ) where
   second-stops acc a h e = rw acc (stays a h 1 (verdict c) (componentCount c) (actionCount c) (transitionsAt c) (stepsAt c) e tables-next)
 
   pub tables-stop : Accepted b → Accepted c → tablesDiffer b c ≡ true → refused 14 0 0 ≡ ofTwo b c (sizesOf b)
-  tables-stop acc acc′ e = sym (two-apart b c (sizesOf b) acc acc′ (λ t. clash e (differ-false b c .1 t)))
+  tables-stop acc acc′ e = sym (two-apart b c (sizesOf b) acc acc′ (λ t. not-both e (differ-false b c .1 t)))
 
   pub two-pass : (z : Sizes) → AcceptedSheet b z → Accepted c → tablesDiffer b c ≡ false → given (listed z) ≡ ofTwo b c (sizesOf b)
   two-pass z r acc e = sym (two-given b c (sizesOf b) (listed z) .1 (r .sheet-accepted, acc, differ-false b c .0 e, told))

@@ -1,4 +1,4 @@
--- 14: whether the tables of two accepted sheets differ, from the sizes of each.
+-- R14: whether the tables of two accepted sheets differ, from the sizes of each.
 -- Assumes nothing.
 use mathlib.Core.Path.{_≡_, refl, sym, ap, _∙_}
 use mathlib.Core.Bool.{Bool, true, false, not}
@@ -7,10 +7,10 @@ use Prim.Native.Nat.{ℕ}
 use native.Mathlib.Omega.{arith}
 use lib.ListN.{length, take}
 use lib.Seq.{length-take-le}
-use Rattle.sets.proofs.Bools.{clash}
+use Rattle.sets.proofs.Bools.{not-both}
 use Rattle.sheet.specs.Layout.{stepsAt, front}
-use Rattle.sheet.specs.Refusals.{sameBytes}
-use Rattle.sheet.proofs.Limits.{same-bytes}
+use Rattle.sheet.specs.Refusals.{sameNumbers}
+use Rattle.sheet.proofs.Limits.{same-numbers}
 use Rattle.answers.specs.declared.Sizes.{Sizes}
 use Rattle.answers.specs.Related.{SameTables}
 use Rattle.answers.specs.TwoSheets.{tablesDiffer}
@@ -43,8 +43,8 @@ module _ (b c : List ℕ) where
     differ-s h = differ-true (λ t. h (p .s-read ∙ t .same-steps-at ∙ sym (q .s-read)))
 
     -- with the numbers the same, the bytes before S decide
-    pub differ-front : z .n ≡ w .n → z .m ≡ w .m → z .s ≡ w .s → not (sameBytes (take (z .s) b) (take (z .s) c)) ≡ tablesDiffer b c
-    differ-front hn hm hs = go (sameBytes (take (z .s) b) (take (z .s) c)) refl
+    pub differ-front : z .n ≡ w .n → z .m ≡ w .m → z .s ≡ w .s → not (sameNumbers (take (z .s) b) (take (z .s) c)) ≡ tablesDiffer b c
+    differ-front hn hm hs = go (sameNumbers (take (z .s) b) (take (z .s) c)) refl
       where
         one : take (z .s) b ≡ front b
         one = front-taken b (z .s) (p .s-read)
@@ -52,13 +52,13 @@ module _ (b c : List ℕ) where
         two : take (z .s) c ≡ front c
         two = front-taken c (z .s) (hs ∙ q .s-read)
 
-        go : (t : Bool) → sameBytes (take (z .s) b) (take (z .s) c) ≡ t → not t ≡ tablesDiffer b c
+        go : (t : Bool) → sameNumbers (take (z .s) b) (take (z .s) c) ≡ t → not t ≡ tablesDiffer b c
         go true e =
             sym (differ-false b c .1
             (record {
-              same-front = sym one ∙ same-bytes (take (z .s) b) (take (z .s) c) .0 e ∙ two;
+              same-front = sym one ∙ same-numbers (take (z .s) b) (take (z .s) c) .0 e ∙ two;
               same-steps-at = sym (p .s-read) ∙ hs ∙ q .s-read;
               same-components = sym (p .n-read) ∙ hn ∙ q .n-read;
               same-actions = sym (p .m-read) ∙ hm ∙ q .m-read;
             }))
-        go false e = differ-true (λ t. clash (same-bytes (take (z .s) b) (take (z .s) c) .1 (one ∙ t .same-front ∙ sym two)) e)
+        go false e = differ-true (λ t. not-both (same-numbers (take (z .s) b) (take (z .s) c) .1 (one ∙ t .same-front ∙ sym two)) e)

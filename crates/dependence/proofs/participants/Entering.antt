@@ -1,4 +1,4 @@
--- Entering components one after another: an action of an alphabet at a time, and then an alphabet at a time.
+-- N3: entering components one after another: an action of an alphabet at a time, and then an alphabet at a time.
 -- Assumes nothing.
 use mathlib.Core.Path.{_≡_, sym, ap, _∙_}
 use mathlib.Core.Logic.{_↔_, _≢_, _⊎_, inl, inr}
@@ -11,7 +11,7 @@ use lib.Dec.{eqb}
 use lib.ListN.{length, getD, set, replicate, getD-replicate, List·getD-eq-default}
 use lib.Seq.{getD-set-same, getD-set-other}
 use Rattle.sets.specs.Bits.{member, members, with}
-use Rattle.sets.proofs.Bools.{true-or-false, clash, or-true, eqb-true, eqb-false}
+use Rattle.sets.proofs.Bools.{true-or-false, not-both, or-true, eqb-true, eqb-false}
 use Rattle.sets.proofs.Members.{member-zero, member-with, members-mem, lt-members}
 use Rattle.systems.specs.Tables.{Tables}
 use Rattle.sheet.specs.Sections.{Alphabets}
@@ -52,7 +52,7 @@ pub entered-none : (left j : ℕ) (found : List ℕ) → left ≡ 0 → length f
 entered-none left j found e size =
     record {
       size = size;
-      each = λ a h i. (inl, λ s. elim s [ inl m ↦ m | inr r ↦ absurd (clash (r .1) (ap (λ (x : ℕ). member x a) e ∙ member-zero a)) ]);
+      each = λ a h i. (inl, λ s. elim s [ inl m ↦ m | inr r ↦ absurd (not-both (r .1) (ap (λ (x : ℕ). member x a) e ∙ member-zero a)) ]);
     }
 
 module _ (left low rest j : ℕ) (found after : List ℕ) (size : length found ≡ 64) (low-lt : low < 64)
@@ -110,7 +110,7 @@ below-zero l found e =
     record {
       size = ap length e;
       each = λ a h j. (
-        λ m. absurd (clash m (ap (λ (o : List ℕ). member (getD o a 0) j) e ∙ ap (λ (x : ℕ). member x j) (getD-replicate 64 a 0 0 h) ∙ member-zero j)),
+        λ m. absurd (not-both m (ap (λ (o : List ℕ). member (getD o a 0) j) e ∙ ap (λ (x : ℕ). member x j) (getD-replicate 64 a 0 0 h) ∙ member-zero j)),
         λ s. absurd (omega arith),
       );
     }
@@ -153,7 +153,7 @@ module _ (T : Tables) (o : List ℕ) (O : Participants T o) where
   -- only an action has participants
   pub participants-action : (a j : ℕ) → participates o j a ≡ true → a < 64
   participants-action a j m =
-      lt-of-not-le (λ (h : 64 ≤ a). clash m (ap (λ (x : ℕ). member x j) (List·getD-eq-default o 0 (let q = O .size in omega arith)) ∙ member-zero j))
+      lt-of-not-le (λ (h : 64 ≤ a). not-both m (ap (λ (x : ℕ). member x j) (List·getD-eq-default o 0 (let q = O .size in omega arith)) ∙ member-zero j))
 
   -- of at most 16 components
   pub participants-sixteen : T .components ≤ 16 → OfSixteen o

@@ -1,4 +1,4 @@
--- The process check as a loop makes it: no step before k offends, and what is left is looked for from k on;
+-- N7: the process check as a loop makes it: no step before k offends, and what is left is looked for from k on;
 -- and the steps of a step section, one by one.
 -- Assumes nothing.
 use mathlib.Core.Path.{_≡_, refl, sym, ap, ap₂, _∙_}

@@ -1,4 +1,4 @@
--- The union of the alphabets that have an action of a set, alphabet by alphabet; and a step that follows another where such a union,
+-- N6: the union of the alphabets that have an action of a set, alphabet by alphabet; and a step that follows another where such a union,
 -- made of the step before, has every action of it.
 -- Assumes nothing.
 use mathlib.Core.Path.{_≡_, sym, ap, _∙_}
@@ -13,7 +13,7 @@ use lib.Bits.{bitOr, bitAnd}
 use lib.ListN.{getD}
 use Rattle.sets.specs.Lists.{anyOf}
 use Rattle.sets.specs.Bits.{member, members}
-use Rattle.sets.proofs.Bools.{clash, iff-bool, or-true, eqb-true, eqb-false}
+use Rattle.sets.proofs.Bools.{not-both, iff-bool, or-true, eqb-true, eqb-false}
 use Rattle.sets.proofs.Lists.{allOf-intro, allOf-elim}
 use Rattle.sets.proofs.Members.{member-zero, member-or, member-ext, member-lt, members-mem}
 use Rattle.traces.specs.Steps.{follows}
@@ -27,7 +27,7 @@ where-some x y e = sym (ap (λ (b : Bool). cond b 0 x) (eqb-false (bitAnd x y) 0
 
 module _ (l : List ℕ) (y : ℕ) where
   pub union-none : UnionMet l 0 y 0
-  union-none a = (λ m. absurd (clash m (member-zero a)), λ m. let h = m .1 in absurd (omega arith))
+  union-none a = (λ m. absurd (not-both m (member-zero a)), λ m. let h = m .1 in absurd (omega arith))
 
   -- one alphabet more
   pub union-more : (k r m : ℕ) → UnionMet l k y r → m ≡ whereMet (getD l k 0) y → UnionMet l (k + 1) y (bitOr r m)

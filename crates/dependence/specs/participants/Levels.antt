@@ -1,4 +1,4 @@
--- The level of an action, where a list has for each component one past its last step: the largest entry of its participants.
+-- N8: the level of an action, where a list has for each component one past its last step: the largest entry of its participants.
 -- Assumes nothing.
 use mathlib.Core.List.{List, [], _∷_}
 use Prim.Native.Nat.{ℕ, max}

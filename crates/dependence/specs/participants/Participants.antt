@@ -8,6 +8,7 @@ use Prim.Native.Nat.{ℕ, _^_, _<_}
 use lib.ListN.{length, getD}
 use Rattle.sets.specs.Bits.{member}
 use Rattle.systems.specs.Tables.{Tables}
+use Rattle.sheet.specs.Bounds.{mostComponents, mostActions}
 
 -- the component j takes part in the action a
 abbrev pub participates : List ℕ → ℕ → ℕ → Bool
@@ -15,16 +16,16 @@ participates o j a = member (getD o a 0) j
 
 -- an array of 64 sets: entry a has the components of T whose alphabets have the action a
 pub record Participants (T : Tables) (o : List ℕ) : Type 0 where
-  pub size : length o ≡ 64
-  pub each : (a : ℕ) → a < 64 → (j : ℕ) → (participates o j a ≡ true) ↔ ((j < T .components) × (member (T .alphabet j) a ≡ true))
+  pub size : length o ≡ mostActions
+  pub each : (a : ℕ) → a < mostActions → (j : ℕ) → (participates o j a ≡ true) ↔ ((j < T .components) × (member (T .alphabet j) a ≡ true))
 
 -- an array of 64 sets of components below 16
 pub record OfSixteen (o : List ℕ) : Type 0 where
-  pub size : length o ≡ 64
-  pub small : (a : ℕ) → getD o a 0 < 2 ^ 16
+  pub size : length o ≡ mostActions
+  pub small : (a : ℕ) → getD o a 0 < 2 ^ mostComponents
 
 -- the component j was entered for each action of its alphabet
 pub record ComponentEntered (alphabet j : ℕ) (before after : List ℕ) : Type 0 where
-  pub size : length after ≡ 64
-  pub each : (a : ℕ) → a < 64 → (i : ℕ)
+  pub size : length after ≡ mostActions
+  pub each : (a : ℕ) → a < mostActions → (i : ℕ)
       → (participates after i a ≡ true) ↔ ((participates before i a ≡ true) ⊎ ((i ≡ j) × (member alphabet a ≡ true)))

@@ -1,4 +1,4 @@
--- The figure by the counts read is the sheet's.
+-- A4: the figure by the counts read is the sheet's.
 -- Assumes nothing.
 use mathlib.Core.Path.{_≡_, refl, ap, ap₂, _∙_}
 use mathlib.Core.Logic.{_≢_}

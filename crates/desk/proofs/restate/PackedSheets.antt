@@ -1,4 +1,4 @@
--- The steps of an accepted sheet with the participants of each action: they may be packed, and packed they are the restated steps.
+-- N8: the steps of an accepted sheet with the participants of each action: they may be packed, and packed they are the restated steps.
 -- Assumes nothing.
 use mathlib.Core.Path.{_≡_, sym, ap, ap₂, _∙_}
 use mathlib.Core.List.{List, map}
@@ -10,6 +10,7 @@ use Rattle.sets.specs.Bits.{setOf}
 use Rattle.traces.specs.Foata.{foata}
 use Rattle.systems.specs.Checking.{flat}
 use Rattle.systems.specs.Independence.{dependent}
+use Rattle.sheet.specs.Bounds.{mostSteps, mostComponents}
 use Rattle.sheet.specs.Layout.{tablesOf, tables, steps}
 use Rattle.dependence.specs.participants.Participants.{OfSixteen}
 use Rattle.dependence.proofs.participants.Entering.{participants-sixteen}
@@ -21,7 +22,7 @@ use Rattle.desk.specs.AcceptedSheet.{AcceptedSheet}
 use Rattle.desk.specs.Left.{ParticipantsLeft, PackedSteps}
 
 module _ (b : List ℕ) (z : Sizes) (k : AcceptedSheet b z) (o : List ℕ) (p : ParticipantsLeft b o) where
-  few : tables b .components ≤ 16
+  few : tables b .components ≤ mostComponents
   unfolding tables tablesOf
   few = accepted-limits b (k .sheet-accepted) .components-high
 
@@ -40,12 +41,12 @@ module _ (b : List ℕ) (z : Sizes) (k : AcceptedSheet b z) (o : List ℕ) (p : 
     count-sets : count ≡ length (map setOf placed)
     count-sets = h .counted ∙ sym (length-map placed setOf)
 
-    whole : length packed ≡ 1024
+    whole : length packed ≡ mostSteps
     whole =
         let f = h .few in
         let e = count-sets in
-        let z = length-replicate {A = ℕ} (1024 - count) 0 in
-        ap length (h .packed-sets) ∙ length-append (map setOf placed) (replicate (1024 - count) 0) ∙ omega arith
+        let z = length-replicate {A = ℕ} (mostSteps - count) 0 in
+        ap length (h .packed-sets) ∙ length-append (map setOf placed) (replicate (mostSteps - count) 0) ∙ omega arith
 
     pub packed-told : PackedSteps b packed count
     packed-told =
@@ -53,5 +54,5 @@ module _ (b : List ℕ) (z : Sizes) (k : AcceptedSheet b z) (o : List ℕ) (p : 
           size = whole;
           counted = count-sets ∙ ap length placed-told;
           few = h .few;
-          sets = ap₂ take count-sets (h .packed-sets) ∙ take-append-seam (map setOf placed) (replicate (1024 - count) 0) ∙ placed-told;
+          sets = ap₂ take count-sets (h .packed-sets) ∙ take-append-seam (map setOf placed) (replicate (mostSteps - count) 0) ∙ placed-told;
         }

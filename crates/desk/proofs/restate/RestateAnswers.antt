@@ -1,4 +1,4 @@
--- Restating's answer and the output afterwards: the sheet's own refusal, else 13, else the packed steps written as the restated sheet.
+-- R13, O5, N9: restating's answer and output: the sheet's own refusal, else 13, else the packed steps written as the restated sheet.
 -- Assumes nothing.
 use mathlib.Core.Path.{_≡_, sym, ap, ap₂, _∙_}
 use mathlib.Core.List.{List}
@@ -13,7 +13,7 @@ use Rattle.sheet.proofs.RoundTrip.{front-length}
 use Rattle.answers.specs.declared.Sizes.{Sizes}
 use Rattle.answers.specs.declared.Answer.{Answer}
 use Rattle.answers.specs.declared.Answer.the-variants.{Given, Refused}
-use Rattle.answers.specs.Outcomes.{given, refused, values, single}
+use Rattle.answers.specs.Outcomes.{given, refused, values, oneValue}
 use Rattle.answers.specs.Restated.{restated}
 use Rattle.answers.specs.Restating.{restating}
 use Rattle.answers.proofs.Restated.{accepted-limits, restated-reads}
@@ -26,7 +26,7 @@ use Rattle.desk.specs.Calls.{RestateAnswer}
 -- a refused call leaves the output as it came
 refused-right : (b out : List ℕ) (k i s : ℕ) → restating b (length out) ≡ refused k i s → RestateAnswer b out (Refused k i s) out
 refused-right b out k i s e =
-    record { answer-told = ap (values single) (sym e); output-left = sym (refused-kept b out k i s e) }
+    record { answer-told = ap (values oneValue) (sym e); output-left = sym (refused-kept b out k i s e) }
 
 pub restate-refused : (b out : List ℕ) (r : Answer) (v : Verdict) (s : IsRefusal r v) → verdict b ≡ Verdict.refused (s .number) (s .index) → RestateAnswer b out r out
 restate-refused b out r v s same =
@@ -53,6 +53,6 @@ module _ (b : List ℕ) (z : Sizes) (r : AcceptedSheet b z) (packed : List ℕ) 
   restate-written out after h e =
       let enough = given-long b (length out) (r .sheet-accepted) (let z = size-told in omega arith) in
       record {
-        answer-told = ap (λ (k : ℕ). given (single k)) size-told ∙ ap (values single) (sym enough);
+        answer-told = ap (λ (k : ℕ). given (oneValue k)) size-told ∙ ap (values oneValue) (sym enough);
         output-left = e ∙ ap (λ (x : List ℕ). over x out) sheet-told ∙ sym (given-output b out (length (restated b)) enough);
       }

@@ -1,4 +1,4 @@
--- The array of end sets: of an accepted sheet the sets that were held, else zeros.
+-- E5: the array of end sets: of an accepted sheet the sets that were held, else zeros.
 -- Assumes nothing.
 use mathlib.Core.Path.{_≡_, refl, sym, ap, _∙_}
 use mathlib.Core.Bool.{Bool, true, false, cond}
@@ -9,31 +9,32 @@ use lib.ListN.{getD, replicate}
 use Rattle.sets.specs.Lists.{below}
 use Rattle.sets.proofs.Bools.{ltb-true}
 use Rattle.sets.proofs.Filling.{map-below}
+use Rattle.sheet.specs.Bounds.{mostComponents}
 use Rattle.sheet.specs.Layout.{componentCount}
 use Rattle.sheet.specs.Verdict.{Verdict, verdict}
 use Rattle.answers.specs.declared.Sizes.{Sizes}
 use Rattle.answers.specs.declared.Answer.{Answer}
-use Rattle.answers.specs.EndSets.{endSet}
+use Rattle.answers.specs.Ends.{endSet}
 use Rattle.answers.proofs.Passing.{IsRefusal}
-use Rattle.desk.specs.declared.verdict.EndSets.{EndSets}
+use Rattle.answers.specs.declared.EndSets.{EndSets}
 use Rattle.desk.specs.AcceptedSheet.{AcceptedSheet}
 use Rattle.desk.specs.Left.{setBelow, EndsLeft}
 use Rattle.desk.specs.Calls.{endArrayBy, EndSetsAnswer}
 
 module _ (b : List ℕ) (a : Answer) (held : List ℕ) (k : EndsLeft b a held) (r : EndSets) (same : a ≡ r .answer) where
-  pub ends-refused : IsRefusal a (verdict b) → r .sets ≡ replicate 16 0 → EndSetsAnswer b r
+  pub ends-refused : IsRefusal a (verdict b) → r .sets ≡ replicate mostComponents 0 → EndSetsAnswer b r
   ends-refused s zeros =
       record {
         answer-told = rw (sym same) (k .answer-told);
         sets-told = zeros ∙ ap (λ (v : Verdict). endArrayBy v b) (sym (s .verdict-told));
       }
 
-  pub ends-first : (z : Sizes) → AcceptedSheet b z → r .sets ≡ map (setBelow held (z .n)) (below 16) → EndSetsAnswer b r
+  pub ends-first : (z : Sizes) → AcceptedSheet b z → r .sets ≡ map (setBelow held (z .n)) (below mostComponents) → EndSetsAnswer b r
   ends-first z s e =
       record {
         answer-told = rw (sym same) (k .answer-told);
         sets-told =
-            e ∙ map-below (setBelow held (z .n)) (λ j. cond (ltb j (componentCount b)) (endSet b j) 0) 16 (λ j l. each j)
+            e ∙ map-below (setBelow held (z .n)) (λ j. cond (ltb j (componentCount b)) (endSet b j) 0) mostComponents (λ j l. each j)
             ∙ ap (λ (v : Verdict). endArrayBy v b) (sym (s .sheet-accepted));
       }
     where

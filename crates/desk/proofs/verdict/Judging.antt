@@ -1,6 +1,6 @@
--- From what the readers and the run answer to the verdict on the sheet, its end sets and the components of each action.
+-- O1: from what the readers and the run answer to the verdict on the sheet, its end sets and the components of each action.
 -- Assumes nothing.
-use mathlib.Core.Path.{_≡_, refl, sym, ap, subst, _∙_}
+use mathlib.Core.Path.{_≡_, refl, sym, ap, ap₂, subst, _∙_}
 use mathlib.Core.List.{List}
 use Prim.Native.Nat.{ℕ, _-_}
 use native.Mathlib.Omega.{arith}
@@ -19,8 +19,9 @@ use Rattle.dependence.specs.participants.Participants.{Participants}
 use Rattle.answers.specs.declared.Sizes.{Sizes}
 use Rattle.answers.specs.declared.Answer.{Answer}
 use Rattle.answers.specs.declared.Answer.the-variants.{Accepted as AcceptedAnswer, Given, Refused}
-use Rattle.answers.specs.Outcomes.{given, single, outcomeOf, after, sizesOf, readOutcome}
-use Rattle.answers.specs.EndSets.{endSet}
+use Rattle.answers.specs.Outcomes.{Outcome, given, outcomeOf, after, sizesOf, readOutcome}
+use Rattle.answers.specs.Ends.{endSet}
+use Rattle.answers.proofs.Restated.{accepted-fine}
 use Rattle.answers.proofs.Passing.{NotAccepted, IsRefusal, stopped-by, told-accepted, same-sizes}
 use Rattle.reading.specs.Reading.{TrailerPassed, upToTrailer}
 use Rattle.sheet.specs.Sections.{stepsIn}
@@ -106,42 +107,30 @@ module _ (b : List ℕ) (z : Sizes) (t : TrailerPassed b z) where
     unfolding stepsVerdict
     verdict-steps = verdict-then ∙ guard-passed (tables-guard b) (tables-told-accepted .0) (stepsVerdict b)
 
-    -- what a run without a fault answers
-    run-done : (r : Answer) → outcomeOf r ≡ given (single 0) → r ≡ Given 0
-    run-done (AcceptedAnswer x) h = let z : _≡_ {A = ℕ} 0 1 = cc in absurd (omega arith)
-    run-done (Given x) h = let p : x ≡ 0 = cc in ap Given p
-    run-done (Refused k i s) h = let z : _≡_ {A = ℕ} 0 1 = cc in absurd (omega arith)
-
-    module _ (r : Answer) (held : List ℕ) (h : RunFromStart (tables b) (steps b) r held) where
-      run-told : outcomeOf r ≡ after (verdict b) (given (single 0))
-      run-told = h .answer ∙ ap (λ (v : Verdict). after v (given (single 0))) (sym verdict-steps)
-
-      sheet-ends : (a : Answer) → outcomeOf a ≡ readOutcome b (verdict b) → EndsLeft b a held
-      unfolding endSet tables tablesOf
-      sheet-ends a told =
-          record {
-            size = h .size;
-            answer-told = told;
-            ends = λ acc j l. h .ends (run-done r (run-told ∙ ap (λ (v : Verdict). after v (given (single 0))) acc)) j l;
-          }
-
-      sheet-answered : EndsLeft b (refusalOrSizes r w) held
-      sheet-answered =
-          sheet-ends (refusalOrSizes r w) (or-sizes b w (e ∙ ap (readOutcome b) (tables-told-accepted .0)) r (verdict b) (single 0) run-told)
+    sheet-answered : (r : Answer) (held : List ℕ) → RunFromStart (tables b) w (steps b) r held → EndsLeft b r held
+    unfolding endSet tables tablesOf
+    sheet-answered r held h =
+        record {
+          size = h .left .size;
+          answer-told = h .answer
+              ∙ ap₂ (λ (v : Verdict) (x : Outcome (List ℕ)). after v x) (sym verdict-steps)
+              (e ∙ ap (readOutcome b) (tables-told-accepted .0));
+          ends = λ acc j l. h .left .ends (accepted-fine b acc) j l;
+        }
 
     abbrev same-tables : tablesOf (take (w .s) b) (w .n) (w .m) ≡ tables b
     same-tables = tables-told b (w .n) (w .m) (w .s) (tables-told-accepted .1) (tables-told-accepted .2) (tables-told-accepted .4)
 
     -- the run over the parts is that of the sheet
     module _ (p : List ℕ) (part : p ≡ upToTrailer (w .s) b) (r : Answer) (held : List ℕ)
-        (h : RunFromStart (tablesOf (take (w .s) b) (w .n) (w .m)) (stepsIn p) r held) where
-      run-sheet : RunFromStart (tables b) (steps b) r held
+        (h : RunFromStart (tablesOf (take (w .s) b) (w .n) (w .m)) w (stepsIn p) r held) where
+      run-sheet : RunFromStart (tables b) w (steps b) r held
       run-sheet =
           let xs : stepsIn p ≡ steps b =
           section-steps b p read-limits (part ∙ ap (λ (k : ℕ). upToTrailer k b) (tables-told-accepted .4)) in
           rw (sym same-tables, sym xs) h
 
-      pub run-answered : EndsLeft b (refusalOrSizes r w) held
+      pub run-answered : EndsLeft b r held
       run-answered = sheet-answered r held run-sheet
 
     pub run-participants : (l : List ℕ) → Participants (tablesOf (take (w .s) b) (w .n) (w .m)) l → ParticipantsLeft b l

@@ -5,17 +5,17 @@ use Prim.Native.Nat.{ℕ, _≤_}
 use native.Mathlib.Omega.{arith}
 use borrow.Author.Needs.{needs}
 use Rattle.mark.specs.declared.stream.Input.{Input}
-use Rattle.mark.specs.Inputs.{Within}
+use Rattle.mark.specs.Inputs.{ReadAtMost}
 use Rattle.mark.proofs.main.Statement.{statement}
 use Rattle.mark.proofs.main.Tie as tie
 
-within-at : (r : Input) (size n : ℕ) → Within size r → r ≡ Input.Whole n → n ≤ size
-within-at r size n h e = subst (Within size) e h
+read-at-most : (r : Input) (size n : ℕ) → ReadAtMost size r → r ≡ Input.Whole n → n ≤ size
+read-at-most r size n h e = subst (ReadAtMost size) e h
 
 put-report-requires : tie.Need-put-report-requires
 put-report-requires c κs =
     let came = c .before .before .before .before .before .before .before .read-to-end in
-    let n = within-at (came .result) _ _ (came .ensures) (c .before .before .before .before .input .given .1) in
+    let n = read-at-most (came .result) _ _ (came .ensures) (c .before .before .before .before .input .given .1) in
     let same = came .kept .1 .0 in
     let room = c .before .before .large-buffer2 .ensures in
     (omega arith, omega arith)

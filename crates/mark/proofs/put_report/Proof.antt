@@ -12,13 +12,14 @@ use types.Run.{OneOf}
 use borrow.Author.Needs.{needs}
 use Rattle.answers.proofs.Answer as enum
 use Rattle.answers.specs.declared.Answer.{Answer}
-use Rattle.answers.specs.Outcomes.{given, single, outcomeOf}
+use Rattle.answers.specs.Outcomes.{given, oneValue, outcomeOf}
 use Rattle.oatmist.proofs.Printing.{length-given, size-told, text-front, text-within}
 use Rattle.mark.proofs.put_report.Statement.{statement}
 use Rattle.mark.proofs.put_report.Tie as tie
 
 -- an answer that gives one number is no other case
-never-else : {P : Type 0} (a : Answer) → OneOf (0 ∷ 2 ∷ []) (Declared.tagOf enum.the-type a) → (k : ℕ) → outcomeOf a ≡ given (single k) → P
+never-else : {P : Type 0} (a : Answer) → OneOf (0 ∷ 2 ∷ []) (Declared.tagOf enum.the-type a) → (k : ℕ)
+    → outcomeOf a ≡ given (oneValue k) → P
 never-else (Answer.Accepted z) h k e = let z : _≡_ {A = ℕ} 0 1 = cc in absurd (omega arith)
 never-else (Answer.Given x) h k e = elim h [ inl q ↦ absurd (omega arith) | inr q ↦ absurd (omega arith) ]
 never-else (Answer.Refused n i s) h k e = let z : _≡_ {A = ℕ} 0 1 = cc in absurd (omega arith)

@@ -10,7 +10,7 @@ use native.Mathlib.Omega.{arith}
 use lib.ListN.{length, getD, set}
 use lib.Seq.{getD-set-same, getD-set-other}
 use Rattle.sets.specs.Bits.{member, members}
-use Rattle.sets.proofs.Bools.{true-or-false, clash, false-iff}
+use Rattle.sets.proofs.Bools.{true-or-false, not-both, false-iff}
 use Rattle.sets.proofs.Members.{member-zero, member-lt, members-mem, members-zero}
 use Rattle.dependence.proofs.participants.Entering.{lowest-or-rest}
 use Rattle.dependence.specs.participants.Levels.{largest}
@@ -23,7 +23,7 @@ first-below x r rest h e = member-lt 16 x r h (members-mem x r .0 (rw e (List·M
 -- no component is left
 pub raised-none : (left level : ℕ) (last : List ℕ) → left ≡ 0 → LevelsRaised left level last last
 raised-none left level last e =
-    record { has = λ j h m. absurd (clash m (ap (λ (x : ℕ). member x j) e ∙ member-zero j)); others = λ j h m. refl }
+    record { has = λ j h m. absurd (not-both m (ap (λ (x : ℕ). member x j) e ∙ member-zero j)); others = λ j h m. refl }
 
 -- the first component was entered, and then the rest
 pub raised-more : (left low rest level : ℕ) (last after : List ℕ) → low < length last → members left ≡ low ∷ members rest
@@ -31,7 +31,7 @@ pub raised-more : (left low rest level : ℕ) (last after : List ℕ) → low < 
 raised-more left low rest level last after fits first M =
     record {
       has = λ j h m. has j h (parts j h .0 m) (true-or-false (member rest j));
-      others = λ j h m. others j h (λ t. clash (parts j h .1 t) m);
+      others = λ j h m. others j h (λ t. not-both (parts j h .1 t) m);
     }
   where
     parts : (j : ℕ) → j < 16 → (member left j ≡ true) ↔ ((j ≡ low) ⊎ (member rest j ≡ true))
@@ -39,7 +39,7 @@ raised-more left low rest level last after fits first M =
 
     has : (j : ℕ) → j < 16 → (j ≡ low) ⊎ (member rest j ≡ true) → (member rest j ≡ true) ⊎ (member rest j ≡ false) → getD after j 0 ≡ suc level
     has j h s (inl m) = M .has j h m
-    has j h (inr m) (inr n) = absurd (clash m n)
+    has j h (inr m) (inr n) = absurd (not-both m n)
     has j h (inl q) (inr n) =
         M .others j h n
         ∙ ap (λ (k : ℕ). getD (set last low (level + 1)) k 0) q

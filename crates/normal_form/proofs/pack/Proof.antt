@@ -8,15 +8,15 @@ use Rattle.sets.specs.Bits.{members}
 use Rattle.systems.specs.Checking.{flat}
 use Rattle.sheet.specs.Sections.{stepsIn}
 use Rattle.sheet.proofs.Sections.{flat-step, flat-none}
-use Rattle.normal_form.proofs.placing.Showing.{Remaining, remaining-none, part-room, remaining-rest}
-use Rattle.normal_form.proofs.Packing.{Packs, remaining-all}
+use Rattle.normal_form.proofs.placing.Showing.{StillToPlace, to-place-none, part-room, to-place-rest}
+use Rattle.normal_form.proofs.Packing.{Packs, to-place-all}
 use Rattle.normal_form.proofs.pack.Statement.{statement}
 use Rattle.normal_form.proofs.pack.Tie as tie
 
 abbrev Inv-loop : tie.InvT-loop
 Inv-loop section participants packed₀ count last₀ steps₀ k₀ packed last steps k =
     (k ≤ length section / 8)
-    × Remaining participants (flat (drop k (stepsIn section))) last packed steps
+    × StillToPlace participants (flat (drop k (stepsIn section))) last packed steps
     (λ last′ packed′ count′. Packs participants (flat (stepsIn section)) packed₀ packed′ count′)
 
 abbrev μ-loop : tie.MeasureT-loop
@@ -25,7 +25,7 @@ abbrev μ-loop : tie.MeasureT-loop
 loop-holds : tie.Need-loop-holds Inv-loop μ-loop
 loop-holds c =
     let start = c .before .before .before in
-    (omega arith, remaining-all _ _ (start .args .packed .now) (start .pre .1) (start .pre .2))
+    (omega arith, to-place-all _ _ (start .args .packed .now) (start .pre .1) (start .pre .2))
 
 step-at-requires : tie.Need-step-at-requires Inv-loop μ-loop
 step-at-requires c κs = omega arith
@@ -61,7 +61,7 @@ loop-again c =
     let e = flat-step b (turn .k) (step .result) (c .before .before .before .before .before .before .before .loop-test .taken) (step .ensures) in
     let placed = c .before .before .before .place-step in (
       omega arith,
-      remaining-rest _ _ _ _ _ _ (members (step .result)) _ e (turn .inv .1) _ _ _ (placed .ensures) (placed .kept .1 .1 .1 .0)
+      to-place-rest _ _ _ _ _ _ (members (step .result)) _ e (turn .inv .1) _ _ _ (placed .ensures) (placed .kept .1 .1 .1 .0)
           (placed .kept .1 .1 .1 .1 .0),
     )
 
@@ -72,7 +72,7 @@ same-length c =
 returns : tie.Need-returns Inv-loop μ-loop
 returns c =
     let b = c .before .before .before .before .before .args .section .now in
-    remaining-none _ _ _ _ _ _ (flat-none b (c .before .loop .k) (c .loop-test .left)) (c .before .loop .inv .1)
+    to-place-none _ _ _ _ _ _ (flat-none b (c .before .loop .k) (c .loop-test .left)) (c .before .loop .inv .1)
 
 pub pack-spec : {M : Type 1} → statement M
 pack-spec =

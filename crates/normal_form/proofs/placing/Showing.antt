@@ -1,4 +1,4 @@
--- What the two arrays show once an action has been placed, and once a word has: from what they showed before.
+-- N8: what the two arrays show once an action has been placed, and once a word has: from what they showed before.
 -- Assumes nothing.
 use mathlib.Core.Path.{_≡_, refl, sym, ap, ap₂, _∙_, subst}
 use mathlib.Core.Bool.{Bool, true, false, _||_}
@@ -19,6 +19,7 @@ use Rattle.traces.proofs.Placing.{put-length, placeAll-append}
 use Rattle.systems.specs.Tables.{Tables, InOrder, WordOver}
 use Rattle.systems.specs.Independence.{dependent}
 use Rattle.systems.proofs.Dependence.{dependent-laws}
+use Rattle.sheet.specs.Bounds.{mostComponents, mostSteps}
 use Rattle.dependence.specs.participants.Participants.{participates, Participants, OfSixteen}
 use Rattle.dependence.specs.participants.Levels.{largest}
 use Rattle.dependence.proofs.Dependence.{level-reach}
@@ -61,7 +62,8 @@ largest-covers last (i ∷ js) j (List·Memᴰ·head e) = let q = ap (λ (x : �
 largest-covers last (i ∷ js) j (List·Memᴰ·tail t) = let rest = largest-covers last js j t in omega arith
 
 -- the largest entry leaves the room that each of them leaves
-largest-room : (last js : List ℕ) (k : ℕ) → k ≤ 1024 → ((j : ℕ) → List·Memᴰ j js → getD last j 0 + k ≤ 1024) → largest last js + k ≤ 1024
+largest-room : (last js : List ℕ) (k : ℕ) → k ≤ mostSteps → ((j : ℕ) → List·Memᴰ j js → getD last j 0 + k ≤ mostSteps)
+    → largest last js + k ≤ mostSteps
 largest-room last [] k h each = omega arith
 largest-room last (j ∷ js) k h each =
     let here = each j (List·Memᴰ·head refl) in
@@ -71,45 +73,45 @@ largest-room last (j ∷ js) k h each =
 -- ---- placing one action
 
 module _ (o : List ℕ) (fit : OfSixteen o) (a : ℕ) (last packed : List ℕ) (count : ℕ) where
-  pub level-room : (k : ℕ) → Room last k → largest last (members (getD o a 0)) + k ≤ 1024
+  pub level-room : (k : ℕ) → Room last k → largest last (members (getD o a 0)) + k ≤ mostSteps
   level-room k room =
       let few = room 0 (omega arith) in
       largest-room last (members (getD o a 0)) k (omega arith)
-      (λ j m. room j (member-lt 16 (getD o a 0) j (fit .small a) (members-mem (getD o a 0) j .0 m .1)))
+      (λ j m. room j (member-lt mostComponents (getD o a 0) j (fit .small a) (members-mem (getD o a 0) j .0 m .1)))
 
-  module _ (level : ℕ) (at : level ≡ largest last (members (getD o a 0))) (within : level < 1024) (last′ packed′ : List ℕ) (count′ : ℕ)
+  module _ (level : ℕ) (at : level ≡ largest last (members (getD o a 0))) (within : level < mostSteps) (last′ packed′ : List ℕ) (count′ : ℕ)
       (raised : LevelsRaised (getD o a 0) level last last′) (puts : packed′ ≡ set packed level (with a (getD packed level 0)))
       (counts : count′ ≡ max count (level + 1)) where
     -- one step's room was taken at most
     room-left : (k : ℕ) → Room last (1 + k) → Room last′ k
     room-left k room j h = go (true-or-false (participates o j a))
       where
-        go : (participates o j a ≡ true) ⊎ (participates o j a ≡ false) → getD last′ j 0 + k ≤ 1024
+        go : (participates o j a ≡ true) ⊎ (participates o j a ≡ false) → getD last′ j 0 + k ≤ mostSteps
         go (inl m) = let e = raised .has j h m in let r = level-room (1 + k) room in omega arith
         go (inr m) = let e = raised .others j h m in let r = room j h in omega arith
 
     module _ (ss : List (List ℕ)) (S : Shows o ss last packed count) (few : level ≤ length ss) where
       -- no participant of the action was reached beyond its level
-      behind : (j : ℕ) → j < 16 → participates o j a ≡ true → reach (participates o j) ss ≤ level
+      behind : (j : ℕ) → j < mostComponents → participates o j a ≡ true → reach (participates o j) ss ≤ level
       behind j h m =
           let e = S .last-steps j h in
           omega (arith, largest-covers last (members (getD o a 0)) j (members-mem (getD o a 0) j .1 (omega arith, m)))
 
-      lasts : (j : ℕ) → j < 16 → getD last′ j 0 ≡ reach (participates o j) (putAt a level ss)
+      lasts : (j : ℕ) → j < mostComponents → getD last′ j 0 ≡ reach (participates o j) (putAt a level ss)
       lasts j h = go (true-or-false (participates o j a))
         where
           go : (participates o j a ≡ true) ⊎ (participates o j a ≡ false) → getD last′ j 0 ≡ reach (participates o j) (putAt a level ss)
           go (inl m) = let far = behind j h m in raised .has j h m ∙ omega (arith, reach-hit (participates o j) a level ss m)
           go (inr m) = raised .others j h m ∙ S .last-steps j h ∙ sym (reach-miss (participates o j) a level ss m)
 
-      sets-then : packed′ ≡ map setOf (putAt a level ss) ++ replicate (1024 - count′) 0
+      sets-then : packed′ ≡ map setOf (putAt a level ss) ++ replicate (mostSteps - count′) 0
       sets-then =
           let all = S .counted in
           let few-steps = S .few in
           let size = put-length a level ss in
           puts
           ∙ ap (λ (p : List ℕ). set p level (with a (getD p level 0))) (S .packed-sets)
-          ∙ put-sets a level ss (1024 - count) (1024 - count′) few (omega arith)
+          ∙ put-sets a level ss (mostSteps - count) (mostSteps - count′) few (omega arith)
 
       put-shows : Shows o (putAt a level ss) last′ packed′ count′
       put-shows =
@@ -132,23 +134,23 @@ module _ (o : List ℕ) (fit : OfSixteen o) (a : ℕ) (last packed : List ℕ) (
 -- ---- placing a word, part by part
 
 -- the actions of w are still to be placed on what the arrays show; once they are, Done holds of the arrays and the count
-pub record Remaining (o w last packed : List ℕ) (count : ℕ) (Done : List ℕ → List ℕ → ℕ → Type 0) : Type 0 where
-  pub last-size : length last ≡ 16
-  pub packed-size : length packed ≡ 1024
+pub record StillToPlace (o w last packed : List ℕ) (count : ℕ) (Done : List ℕ → List ℕ → ℕ → Type 0) : Type 0 where
+  pub last-size : length last ≡ mostComponents
+  pub packed-size : length packed ≡ mostSteps
   pub room : Room last (length w)
   pub finish : (last′ packed′ : List ℕ) (count′ : ℕ) → PlacesWord o w last packed count last′ packed′ count′ → Done last′ packed′ count′
 
 module _ (o last packed : List ℕ) (count : ℕ) (Done : List ℕ → List ℕ → ℕ → Type 0) where
   -- nothing is left
-  pub remaining-none : (w : List ℕ) → w ≡ [] → Remaining o w last packed count Done → Done last packed count
-  remaining-none w e R =
+  pub to-place-none : (w : List ℕ) → w ≡ [] → StillToPlace o w last packed count Done → Done last packed count
+  to-place-none w e R =
       R .finish last packed count
       (record {
         room = λ k room j h. let r = room j h in let size = ap length e in omega arith;
         shown = λ T order O over ss S. rw e S;
       })
 
-  module _ (w u v : List ℕ) (e : w ≡ u ++ v) (R : Remaining o w last packed count Done) where
+  module _ (w u v : List ℕ) (e : w ≡ u ++ v) (R : StillToPlace o w last packed count Done) where
     size : length w ≡ length u + length v
     size = ap length e ∙ length-append u v
 
@@ -159,8 +161,8 @@ module _ (o last packed : List ℕ) (count : ℕ) (Done : List ℕ → List ℕ 
     module _ (last′ packed′ : List ℕ) (count′ : ℕ) (P : PlacesWord o u last packed count last′ packed′ count′)
         (same-last : length last′ ≡ length last) (same-packed : length packed′ ≡ length packed) where
       -- and what is left once it has been placed
-      pub remaining-rest : Remaining o v last′ packed′ count′ Done
-      remaining-rest =
+      pub to-place-rest : StillToPlace o v last′ packed′ count′ Done
+      to-place-rest =
           record {
             last-size = same-last ∙ R .last-size;
             packed-size = same-packed ∙ R .packed-size;

@@ -1,4 +1,5 @@
 -- For each component one past the last step that has an action of it, in a list: raised for the participants of an action, and with room left.
+-- The functions over it carry out N8.
 -- Assumes nothing.
 use mathlib.Core.Path.{_≡_}
 use mathlib.Core.Bool.{true, false}
@@ -6,12 +7,13 @@ use mathlib.Core.List.{List}
 use Prim.Native.Nat.{ℕ, suc, _+_, _≤_, _<_}
 use lib.ListN.{getD}
 use Rattle.sets.specs.Bits.{member}
+use Rattle.sheet.specs.Bounds.{mostComponents, mostSteps}
 
 -- the entries of `last` after an action at a level: one past it for the components of a set, the others as they were
 pub record LevelsRaised (mine level : ℕ) (before after : List ℕ) : Type 0 where
-  pub has : (j : ℕ) → j < 16 → member mine j ≡ true → getD after j 0 ≡ suc level
-  pub others : (j : ℕ) → j < 16 → member mine j ≡ false → getD after j 0 ≡ getD before j 0
+  pub has : (j : ℕ) → j < mostComponents → member mine j ≡ true → getD after j 0 ≡ suc level
+  pub others : (j : ℕ) → j < mostComponents → member mine j ≡ false → getD after j 0 ≡ getD before j 0
 
--- L5, L6: 1,024 steps have room for k more actions, wherever they are placed
+-- L5, L6: the most steps have room for k more actions, wherever they are placed
 abbrev pub Room : List ℕ → ℕ → Type 0
-Room last k = (j : ℕ) → j < 16 → getD last j 0 + k ≤ 1024
+Room last k = (j : ℕ) → j < mostComponents → getD last j 0 + k ≤ mostSteps

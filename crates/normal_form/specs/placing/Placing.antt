@@ -1,4 +1,5 @@
--- The steps of a normal form kept in two arrays: for each component one past the last step that has an action of it, and the steps as sets.
+-- N8: the steps of a normal form kept in two arrays: for each component one past the last step that has an action of it, and the steps as
+-- sets.
 -- Assumes nothing.
 use mathlib.Core.Path.{_≡_}
 use mathlib.Core.List.{List, _++_, map}
@@ -8,15 +9,16 @@ use Rattle.sets.specs.Bits.{setOf}
 use Rattle.traces.specs.Foata.{reach, placeAll}
 use Rattle.systems.specs.Tables.{Tables, InOrder, WordOver}
 use Rattle.systems.specs.Independence.{dependent}
+use Rattle.sheet.specs.Bounds.{mostComponents, mostSteps}
 use Rattle.dependence.specs.participants.Participants.{participates, Participants}
 use Rattle.normal_form.specs.levels.Levels.{Room}
 
 -- the arrays show the steps ss, `count` of them: their sets, zeros behind them, and for each component one past its last step
 pub record Shows (o : List ℕ) (ss : List (List ℕ)) (last packed : List ℕ) (count : ℕ) : Type 0 where
   pub counted : count ≡ length ss
-  pub few : count ≤ 1024
-  pub packed-sets : packed ≡ map setOf ss ++ replicate (1024 - count) 0
-  pub last-steps : (j : ℕ) → j < 16 → getD last j 0 ≡ reach (participates o j) ss
+  pub few : count ≤ mostSteps
+  pub packed-sets : packed ≡ map setOf ss ++ replicate (mostSteps - count) 0
+  pub last-steps : (j : ℕ) → j < mostComponents → getD last j 0 ≡ reach (participates o j) ss
 
 -- the actions of w have been placed: each took the room of at most one step; and for all tables whose participants the array o has, whatever
 -- steps were shown, they are now shown with those actions placed on them

@@ -8,7 +8,7 @@ use Rattle.sheet.specs.Layout.{componentCount, actionCount, transitionsAt, step
 use Rattle.sheet.specs.Verdict.{Verdict, verdict}
 use Rattle.answers.specs.declared.Answer.{Answer}
 use Rattle.answers.specs.Outcomes.{Outcome, given, outcomeOf, after}
-use Rattle.answers.specs.EndSets.{endArray, endsOutcome}
+use Rattle.answers.specs.Ends.{endArray, endsOutcome}
 use Rattle.answers.proofs.Passing.{NotAccepted, IsRefusal, stopped-by, told-accepted}
 use Rattle.desk.specs.Calls.{CheckAnswer, endArrayBy}
 use Rattle.oatmist.specs.Convention.{CAnswer, withValues}

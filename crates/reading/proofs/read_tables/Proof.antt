@@ -11,6 +11,7 @@ use lib.Dec.{ltb}
 use lib.ListN.{length}
 use Rattle.sets.proofs.Bools.{ltb-true, ltb-false}
 use Rattle.systems.specs.Checking.{flat}
+use Rattle.sheet.specs.Bounds.{mostInSteps}
 use Rattle.sheet.specs.Sections.{stepsIn}
 use Rattle.sheet.specs.Refusals.{recordsWrong, actionUnused, transitionsWrong, orderWrong, tooManyActions}
 use Rattle.sheet.specs.Verdict.{accepted}
@@ -139,7 +140,8 @@ order-passed c = disordered (c .before) ∙ c .if4 .left
 abbrev rising-at : tie.After-actions-in → tie.Else4
 rising-at c = c .before .before
 
-too-many : (c : tie.After-actions-in) → tooManyActions (sheet-at (ordered-at (rising-at c .before))) ≡ ltb 1024 (c .actions-in .result)
+too-many : (c : tie.After-actions-in) → tooManyActions (sheet-at (ordered-at (rising-at c .before)))
+    ≡ ltb mostInSteps (c .actions-in .result)
 too-many c = count-told (read-at (ordered-at (rising-at c .before)))
     (c .actions-in .ensures ∙ ap (λ (l : List ℕ). length (flat (stepsIn l))) (c .before .step-section .ensures))
 
@@ -149,7 +151,7 @@ returns-5 c =
     let o = rising-at k in
     let t = fit-at (o .before) in
     let u = used-at (t .before) in
-    let e = too-many k ∙ ltb-true 1024 (k .actions-in .result) .1 (c .before .if5 .taken) in
+    let e = too-many k ∙ ltb-true mostInSteps (k .actions-in .result) .1 (c .before .if5 .taken) in
     rw (records-passed (right-at (u .before)), actions-passed u, transitions-passed t, order-passed o, e) (stopped (c .refuse5 .ensures))
 
 returns-6 : tie.Need-returns-6
@@ -160,7 +162,7 @@ returns-6 c =
     let u = used-at (t .before) in
     let a = alphabets-at (u .before) in
     let s = filled-at a in
-    let e = too-many k ∙ ltb-false 1024 (k .actions-in .result) .1 (c .if5 .left) in
+    let e = too-many k ∙ ltb-false mostInSteps (k .actions-in .result) .1 (c .if5 .left) in
     rw (records-passed (right-at (u .before)), actions-passed u, transitions-passed t, order-passed o, e)
     (s .pre .0 ∙ ap (readOutcome (sheet-at s)) (trailer-then (read-at s) accepted), λ f. alphabets-part (read-at s) (a .alphabets .ensures _))
 

@@ -1,4 +1,4 @@
--- The set of all numbers below m is 2 ^ m - 1, and a set that has them all is one whose part below m is that one.
+-- R6: the set of all numbers below m is 2 ^ m - 1, and a set that has them all is one whose part below m is that one.
 -- Assumes nothing.
 use mathlib.Core.Path.{_≡_, refl, sym, ap, _∙_}
 use mathlib.Core.Logic.{_⊎_, inl, inr}
@@ -12,7 +12,7 @@ use lib.Dec.{eqb}
 use lib.Pow.{pow-pos, ones-lt}
 use Rattle.sets.specs.Lists.{anyOf, below}
 use Rattle.sets.specs.Bits.{member}
-use Rattle.sets.proofs.Bools.{true-or-false, clash, not-true, not-false, and-true, eqb-false}
+use Rattle.sets.proofs.Bools.{true-or-false, not-both, not-true, not-false, and-true, eqb-false}
 use Rattle.sets.proofs.Lists.{anyOf-elim, anyOf-false, mem-below}
 use Rattle.sets.proofs.Members.{member-low, member-half, member-and, member-ext, member-lt}
 
@@ -42,7 +42,7 @@ module _ (x m : ℕ) (has : ℕ → Bool) (given : (a : ℕ) → member x a ≡ 
 
   lacking : (a : ℕ) → a < m → has a ≡ false → bitAnd x (2 ^ m - 1) ≡ 2 ^ m - 1 → ⊥
   lacking a l h e =
-      clash (and-true (member x a) _ .0 (sym (member-and x (2 ^ m - 1) a) ∙ ap (λ (z : ℕ). member z a) e ∙ full-has m a l) .0) (given a ∙ h)
+      not-both (and-true (member x a) _ .0 (sym (member-and x (2 ^ m - 1) a) ∙ ap (λ (z : ℕ). member z a) e ∙ full-has m a l) .0) (given a ∙ h)
 
   pub lacks : not (eqb (bitAnd x (2 ^ m - 1)) (2 ^ m - 1)) ≡ anyOf (λ a. not (has a)) (below m)
   lacks = go (true-or-false (anyOf (λ a. not (has a)) (below m)))

@@ -1,4 +1,4 @@
--- What refusals 2 and 3 say of the bytes that stand in the trailer.
+-- What R2 and R3 say of the bytes that stand in the trailer.
 -- Assumes nothing.
 use mathlib.Core.Path.{_≡_, refl, sym, ap, ap₂, _∙_}
 use mathlib.Core.Bool.{Bool, true, false, not, _&&_, _||_}
@@ -9,7 +9,7 @@ use lib.Dec.{eqb}
 use lib.ListN.{length, drop, getD}
 use lib.Seq.{drop-cons, drop-length}
 use Rattle.sheet.specs.Layout.{componentCount, actionCount, closing, mark}
-use Rattle.sheet.specs.Refusals.{outside, sameBytes, markWrong, countsWrong}
+use Rattle.sheet.specs.Refusals.{outside, sameNumbers, markWrong, countsWrong}
 use Rattle.sheet.proofs.Numbers.{field-one}
 
 -- ---- 2
@@ -37,7 +37,7 @@ module _ (b : List ℕ) (two : 2 ≤ length b) where
 
   mark-read : markWrong b ≡ not (eqb (getD b (length b - 2) 0) 0x46 && (eqb (getD b (length b - 1) 0) 0x53 && true))
   unfolding markWrong
-  mark-read = ap (λ (l : List ℕ). not (sameBytes l mark)) closing-two
+  mark-read = ap (λ (l : List ℕ). not (sameNumbers l mark)) closing-two
 
   pub mark-tested : (not (eqb (getD b (length b - 2) 0) 0x46) || not (eqb (getD b (length b - 1) 0) 0x53)) ≡ markWrong b
   mark-tested = either (eqb (getD b (length b - 2) 0) 0x46) (eqb (getD b (length b - 1) 0) 0x53) ∙ sym mark-read

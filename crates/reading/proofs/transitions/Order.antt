@@ -1,4 +1,4 @@
--- Byte strings of one length rise as the numbers that they are, the first byte heaviest; and what is left to compare at part k.
+-- R8: byte strings of one length rise as the numbers that they are, the first byte heaviest; and what is left to compare at part k.
 -- Assumes nothing.
 use mathlib.Core.Path.{_≡_, refl, sym, ap, ap₂, _∙_}
 use mathlib.Core.Bool.{Bool, true, _&&_, _||_}

@@ -1,4 +1,4 @@
--- The transition that stands in four bytes of a section.
+-- S4: the transition that stands in four bytes of a section.
 -- Assumes nothing.
 use mathlib.Core.Path.{_≡_, ap, _∙_}
 use mathlib.Core.List.{List}

@@ -6,7 +6,7 @@ use Prim.Native.Nat.{ℕ, _+_, _*_, _<_}
 use Rattle.systems.specs.Tables.{Tables}
 
 -- the number of states and the alphabet of component j of the tables
-pub record AtHand (T : Tables) (j states alphabet : ℕ) : Type 0 where
+pub record ComponentHas (T : Tables) (j states alphabet : ℕ) : Type 0 where
   pub known : j < T .components
   pub states-known : states ≡ T .states j
   pub alphabet-known : alphabet ≡ T .alphabet j

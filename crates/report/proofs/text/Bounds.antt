@@ -1,4 +1,4 @@
--- How long the text of a sheet can be: each action and state takes three bytes, each other number at most twenty-one.
+-- P1 to P5: how long the text of a sheet can be: each action and state takes three bytes, each other number at most twenty-one.
 -- Assumes nothing.
 use mathlib.Core.Path.{refl}
 use mathlib.Core.Bool.{Bool, true, false}
@@ -11,6 +11,7 @@ use Rattle.sets.specs.Lists.{appendAll, below, upward, keep}
 use Rattle.sets.specs.Bits.{member, membersFrom, members}
 use Rattle.sets.proofs.Members.{members-mem}
 use Rattle.systems.specs.Checking.{flat}
+use Rattle.sheet.specs.Bounds.{mostComponents}
 use Rattle.answers.specs.Report.{digitsBefore, part, line, stepWord, endWord, stepTexts, endTexts}
 
 -- ---- numbers
@@ -118,6 +119,6 @@ upward-most held j (suc k) h =
     let r = upward-most held (suc j) k (omega arith) in
     omega arith
 
-pub ends-most : (held : ℕ → ℕ) (n : ℕ) → n ≤ 16 → length (endTexts held (below n)) ≤ 3184
+pub ends-most : (held : ℕ → ℕ) (n : ℕ) → n ≤ mostComponents → length (endTexts held (below n)) ≤ 3184
 unfolding below
 ends-most held n h = let r = upward-most held 0 n (omega arith) in omega arith

@@ -1,4 +1,4 @@
--- Text in a buffer.
+-- Text in a buffer. The functions over it carry out P1 to P5.
 -- Assumes nothing.
 use mathlib.Core.Path.{_≡_}
 use mathlib.Core.List.{List, _++_}

@@ -2,7 +2,7 @@
 -- Assumes nothing.
 use mathlib.Core.Path.{sym, ap, ap₂, _∙_}
 use lib.ListN.{length}
-use Rattle.sheet.specs.Refusals.{sameBytes}
+use Rattle.sheet.specs.Refusals.{sameNumbers}
 use borrow.Author.Needs.{needs}
 use Rattle.comparing.proofs.restated.same_restated.Statement.{statement}
 use Rattle.comparing.proofs.restated.same_restated.Tie as tie
@@ -21,7 +21,7 @@ returns : tie.Need-returns
 returns c =
     let m = c .before .before .before .before .before .before .before .pack-sheet in
     let m2 = c .before .before .before .before .pack-sheet2 in
-    c .same-steps .ensures ∙ ap₂ sameBytes (m .ensures .sets) (m2 .ensures .sets)
+    c .same-steps .ensures ∙ ap₂ sameNumbers (m .ensures .sets) (m2 .ensures .sets)
 
 pub same-restated-spec : {M : Type 1} → statement M
 same-restated-spec =

@@ -6,7 +6,7 @@ use Prim.Native.Nat.{ℕ}
 use borrow.Author.Needs.{needs}
 use Rattle.sheet.specs.Verdict.{Verdict, verdict}
 use Rattle.answers.specs.declared.Answer.{Answer}
-use Rattle.answers.specs.Outcomes.{single}
+use Rattle.answers.specs.Outcomes.{oneValue}
 use Rattle.answers.specs.Figure.{figure, figureOutcome}
 use Rattle.answers.proofs.Passing.{NotAccepted, told-given}
 use Rattle.desk.specs.AcceptedSheet.{AcceptedSheet}
@@ -17,11 +17,11 @@ use Rattle.desk.proofs.figure.figure_of.Tie as tie
 
 refused-told : (b : List ℕ) (a : Answer) → NotAccepted a → CheckAnswer b a → FigureAnswer b a
 unfolding figureOutcome
-refused-told b a h e = check-refused b a h e single (figure b)
+refused-told b a h e = check-refused b a h e oneValue (figure b)
 
 given-told : (b : List ℕ) (f : ℕ) → verdict b ≡ Verdict.accepted → f ≡ figure b → FigureAnswer b (Answer.Given f)
 unfolding figureOutcome
-given-told b f acc e = told-given single (verdict b) (figure b) (single f) acc (ap single e)
+given-told b f acc e = told-given oneValue (verdict b) (figure b) (oneValue f) acc (ap oneValue e)
 
 returns : tie.Need-returns
 returns c = refused-told (c .before .before .before .args .sheet .now) (c .before .check .result) (c .match .keys2) (c .before .check .ensures)

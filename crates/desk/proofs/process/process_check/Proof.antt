@@ -11,7 +11,7 @@ use Rattle.systems.specs.Independence.{dependent}
 use Rattle.sheet.specs.Layout.{tables, steps}
 use Rattle.sheet.specs.Verdict.{Verdict, verdict}
 use Rattle.answers.specs.declared.Answer.{Answer}
-use Rattle.answers.specs.Outcomes.{single}
+use Rattle.answers.specs.Outcomes.{oneValue}
 use Rattle.answers.specs.ProcessCheck.{processCheck}
 use Rattle.answers.proofs.Passing.{NotAccepted, told-given}
 use Rattle.desk.specs.AcceptedSheet.{AcceptedSheet}
@@ -25,11 +25,11 @@ offence b = firstOffence (dependent (tables b)) (map members (steps b))
 
 refused-told : (b : List ℕ) (a : Answer) → NotAccepted a → CheckAnswer b a → ProcessAnswer b a
 unfolding processCheck
-refused-told b a h e = check-refused b a h e (λ o. single (offending o)) (offence b)
+refused-told b a h e = check-refused b a h e (λ o. oneValue (offending o)) (offence b)
 
 given-told : (b : List ℕ) (x : ℕ) → verdict b ≡ Verdict.accepted → x ≡ offending (offence b) → ProcessAnswer b (Answer.Given x)
 unfolding processCheck
-given-told b x acc e = told-given (λ o. single (offending o)) (verdict b) (offence b) (single x) acc (ap single e)
+given-told b x acc e = told-given (λ o. oneValue (offending o)) (verdict b) (offence b) (oneValue x) acc (ap oneValue e)
 
 returns : tie.Need-returns
 returns c = refused-told (c .before .before .before .args .sheet .now) (c .before .check .result) (c .match .keys2) (c .before .check .ensures)

@@ -4,6 +4,7 @@ use mathlib.Core.Path.{ap, _∙_}
 use Prim.Native.Nat.{ℕ}
 use lib.ListN.{length, length-replicate}
 use borrow.Author.Needs.{needs}
+use Rattle.sheet.specs.Bounds.{mostSteps}
 use Rattle.sheet.specs.Layout.{tables}
 use Rattle.answers.proofs.Restated.{accepted-order}
 use Rattle.desk.proofs.Accepted.{section-told, section-few, section-over}
@@ -16,7 +17,7 @@ pack-requires c κs =
     let s = c .before .before .before .before .before in
     let a = s .args in (
       sheet-sixteen (a .sheet .now) (a .sizes) (s .pre .0) (a .participants .now) (s .pre .1),
-      ap length (s .pre .2) ∙ length-replicate {A = ℕ} 1024 0,
+      ap length (s .pre .2) ∙ length-replicate {A = ℕ} mostSteps 0,
       section-few (a .sheet .now) (a .sizes) (s .pre .0) _ (c .before .step-section .ensures),
     )
 

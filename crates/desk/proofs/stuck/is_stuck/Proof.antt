@@ -7,7 +7,7 @@ use Prim.Native.Nat.{ℕ}
 use borrow.Author.Needs.{needs}
 use Rattle.sheet.specs.Verdict.{Verdict, verdict}
 use Rattle.answers.specs.declared.Answer.{Answer}
-use Rattle.answers.specs.Outcomes.{single, bit}
+use Rattle.answers.specs.Outcomes.{oneValue, bit}
 use Rattle.answers.specs.Stuck.{stuck, stuckOutcome}
 use Rattle.answers.proofs.Passing.{NotAccepted, told-given}
 use Rattle.desk.specs.AcceptedSheet.{AcceptedSheet}
@@ -17,7 +17,7 @@ use Rattle.desk.proofs.stuck.is_stuck.Statement.{statement}
 use Rattle.desk.proofs.stuck.is_stuck.Tie as tie
 
 abbrev yesNo : Bool → List ℕ
-yesNo t = single (bit t)
+yesNo t = oneValue (bit t)
 
 refused-told : (b : List ℕ) (a : Answer) → NotAccepted a → CheckAnswer b a → StuckAnswer b a
 unfolding stuckOutcome
@@ -25,7 +25,7 @@ refused-told b a h e = check-refused b a h e yesNo (stuck b)
 
 given-told : (b : List ℕ) (x : ℕ) (t : Bool) → verdict b ≡ Verdict.accepted → x ≡ bit t → t ≡ stuck b → StuckAnswer b (Answer.Given x)
 unfolding stuckOutcome
-given-told b x t acc e f = told-given yesNo (verdict b) (stuck b) (single x) acc (ap single (e ∙ ap bit f))
+given-told b x t acc e f = told-given yesNo (verdict b) (stuck b) (oneValue x) acc (ap oneValue (e ∙ ap bit f))
 
 returns : tie.Need-returns
 returns c =

@@ -1,6 +1,6 @@
 -- `verdict::judge_tables` meets its contract: the refusal of the tables, or what the run over the parts of the sheet answers and leaves.
 -- Assumes nothing.
-use mathlib.Core.Path.{_≡_, sym, ap, subst, _∙_}
+use mathlib.Core.Path.{_≡_, sym, ap, _∙_}
 use mathlib.Core.List.{List}
 use native.Mathlib.Omega.{arith}
 use Prim.Native.Nat.{ℕ, _+_, _≤_}
@@ -10,10 +10,9 @@ use borrow.Author.Needs.{needs}
 use Rattle.sheet.specs.Limits.{InLimits}
 use Rattle.sheet.specs.Verdict.{accepted, tablesVerdict}
 use Rattle.answers.specs.declared.Sizes.{Sizes}
-use Rattle.answers.specs.declared.Answer.{Answer}
 use Rattle.answers.specs.declared.Answer.the-variants.{Accepted as AcceptedAnswer}
 use Rattle.answers.specs.Outcomes.{outcomeOf, readOutcome}
-use Rattle.desk.specs.Left.{EndsLeft, ParticipantsLeft}
+use Rattle.desk.specs.Left.{ParticipantsLeft}
 use Rattle.machine.proofs.Running.{front-checked, section-short}
 use Rattle.desk.proofs.verdict.Judging.{refused-ends, refused-participants, tables-stopped, tables-verdict, tables-told-accepted, known-sizes, known-told, read-limits, run-answered, run-participants}
 use Rattle.desk.proofs.verdict.judge_tables.Statement.{statement}
@@ -96,20 +95,19 @@ abbrev known-at : tie.After-run-from-start → tie.After-known-told
 known-at c = c .before .before .before .before .before .before
 
 participants-left : (c : tie.After-run-from-start)
-    → ParticipantsLeft (sheet-at (read-at (known-at c))) (c .run-from-start .last .1 .1 .1 .1 .1 .0)
+    → ParticipantsLeft (sheet-at (read-at (known-at c))) (c .run-from-start .last .1 .1 .1 .1 .0)
 participants-left c =
     let k = known-at c in
     run-participants (sheet-at (read-at k)) (sizes-at k) (start-at (read-at k) .pre .0) (sizes-at k) (told-at k) _ (c .run-from-start .ensures .1)
 
 returns-2 : tie.Need-returns-2
 returns-2 c =
-    let ran = c .before .before .before .before .before in
+    let ran = c .before .before .before .before in
     let k = known-at ran in
     let b = sheet-at (read-at k) in
-    let held = ran .run-from-start .last .1 .1 .1 .1 .1 .1 .0 in (
-      subst (λ (a : Answer). EndsLeft b a held) (sym (c .refusal-or-sizes .ensures))
-          (run-answered b (sizes-at k) (start-at (read-at k) .pre .0) (sizes-at k) (told-at k) _ (ran .before .before .before .before .step-section .ensures)
-          (ran .run-from-start .result) held (ran .run-from-start .ensures .0)),
+    let held = ran .run-from-start .last .1 .1 .1 .1 .1 .0 in (
+      run-answered b (sizes-at k) (start-at (read-at k) .pre .0) (sizes-at k) (told-at k) _ (ran .before .before .before .before .step-section .ensures)
+          (ran .run-from-start .result) held (ran .run-from-start .ensures .0),
       participants-left ran,
     )
 
@@ -125,7 +123,6 @@ judge-tables-spec =
     step-section-requires
     (λ c. search needs)
     run-from-start-requires
-    (λ c κs. search needs)
     (λ c. search needs)
     (λ c. search needs)
     returns-2)

@@ -6,6 +6,7 @@ use native.Mathlib.Omega.{arith}
 use lib.ListN.{getD, set}
 use borrow.Author.Needs.{needs}
 use Rattle.sets.specs.Bits.{members}
+use Rattle.sheet.specs.Bounds.{mostSteps}
 use Rattle.dependence.specs.participants.Levels.{largest}
 use Rattle.normal_form.proofs.placing.Showing.{level-room, place-one}
 use Rattle.normal_form.proofs.placing.place.Statement.{statement}
@@ -16,7 +17,7 @@ level : (h : tie.After-highest) → let start = h .before .before .before .befor
     h .highest .result ≡ largest (start .last .now) (members (getD (start .participants .now) (start .a) 0))
 level h = let e = h .highest .ensures in omega arith
 
-low : (h : tie.After-highest) → h .highest .result < 1024
+low : (h : tie.After-highest) → h .highest .result < mostSteps
 low h =
     let start = h .before .before .before .before .before .before in
     let b = level-room (start .args .participants .now) (start .pre .0) (start .args .a) (start .args .last .now)

@@ -6,13 +6,13 @@ use Prim.Native.Nat.{ℕ}
 use Rattle.sets.specs.Bits.{members}
 use Rattle.sets.proofs.Members.{members-zero}
 use Rattle.normal_form.specs.placing.Placing.{PlacesWord}
-use Rattle.normal_form.proofs.placing.Showing.{Remaining, remaining-none, part-room, remaining-rest}
+use Rattle.normal_form.proofs.placing.Showing.{StillToPlace, to-place-none, part-room, to-place-rest}
 use Rattle.normal_form.proofs.placing.place_step.Statement.{statement}
 use Rattle.normal_form.proofs.placing.place_step.Tie as tie
 
 abbrev Inv-loop : tie.InvT-loop
 Inv-loop participants step count last₀ packed₀ steps₀ left₀ last packed steps left =
-    Remaining participants (members left) last packed steps (λ last′ packed′ count′. PlacesWord participants (members step) last₀ packed₀ count last′ packed′ count′)
+    StillToPlace participants (members left) last packed steps (λ last′ packed′ count′. PlacesWord participants (members step) last₀ packed₀ count last′ packed′ count′)
 
 abbrev μ-loop : tie.MeasureT-loop
 μ-loop participants step count last₀ packed₀ steps₀ left₀ last packed steps left = left
@@ -48,7 +48,7 @@ loop-again c =
     let R = c .before .before .before .before .before .before .before .before .before .before .loop .inv in
     let first = c .before .before .before .before .before .before .before .before .lowest in
     let placed = c .before .before .before .before .before .place in
-    remaining-rest _ _ _ _ _ _ (first .result ∷ []) (members (c .without-lowest .result))
+    to-place-rest _ _ _ _ _ _ (first .result ∷ []) (members (c .without-lowest .result))
     (first .ensures .1 ∙ ap (λ (x : ℕ). first .result ∷ members x) (sym (c .without-lowest .ensures .0))) R _ _ _ (placed .ensures)
     (placed .kept .1 .1 .1 .0) (placed .kept .1 .1 .1 .1 .0)
 
@@ -59,7 +59,7 @@ same-length-2 : tie.Need-same-length-2 Inv-loop μ-loop
 same-length-2 c = c .before .loop .inv .packed-size ∙ sym (c .before .before .before .before .before .pre .2)
 
 returns : tie.Need-returns Inv-loop μ-loop
-returns c = remaining-none _ _ _ _ _ _ (ap members (c .loop-test .left) ∙ members-zero) (c .before .loop .inv)
+returns c = to-place-none _ _ _ _ _ _ (ap members (c .loop-test .left) ∙ members-zero) (c .before .loop .inv)
 
 pub place-step-spec : {M : Type 1} → statement M
 place-step-spec =

@@ -12,12 +12,12 @@ use Rattle.sets.proofs.Bools.{leb-true, leb-false}
 use Rattle.systems.specs.Tables.{Tables, internal}
 use Rattle.sheet.specs.Layout.{transitionOf}
 use Rattle.sheet.specs.Refusals.{transitionWrong}
-use Rattle.reading.specs.transitions.Fitting.{AtHand}
+use Rattle.reading.specs.transitions.Fitting.{ComponentHas}
 use Rattle.reading.proofs.transitions.Standing.{standing, transition-at}
 use Rattle.reading.proofs.transitions.transition_wrong.Statement.{statement}
 use Rattle.reading.proofs.transitions.transition_wrong.Tie as tie
 
-told : (T : Tables) (b : List ℕ) (at states alphabet : ℕ) → AtHand T (getD b at 0) states alphabet → (p q r : Bool)
+told : (T : Tables) (b : List ℕ) (at states alphabet : ℕ) → ComponentHas T (getD b at 0) states alphabet → (p q r : Bool)
     → leb states (getD b (at + 1) 0) ≡ p → leb states (getD b (at + 3) 0) ≡ q
     → not (eqb (getD b (at + 2) 0) internal || member alphabet (getD b (at + 2) 0)) ≡ r
     → ((p || q) || r) ≡ transitionWrong T (transitionOf (take 4 (drop at b)))

@@ -16,7 +16,7 @@ use Rattle.sheet.specs.Refusals.{transitionWrong}
 use Rattle.sheet.specs.Sections.{sectionTables, Alphabets}
 use Rattle.sheet.proofs.Sections.{alphabets-each}
 use Rattle.sheet.proofs.Numbers.{field-one}
-use Rattle.reading.specs.transitions.Fitting.{AtHand}
+use Rattle.reading.specs.transitions.Fitting.{ComponentHas}
 use Rattle.reading.proofs.transitions.Parts.{partsFrom, parts-first, parts-next, parts-none}
 use Rattle.reading.proofs.transitions.Standing.{standing, transition-at}
 use Rattle.reading.proofs.transitions.transitions_wrong.Statement.{statement}
@@ -51,18 +51,19 @@ states-at b j = sym (field-one (16 * j) b)
 
 -- as it is read for component j
 loaded : (records section l : List ℕ) (n j : ℕ) → Alphabets (tablesOf records n 0) n l → j < n
-    → AtHand (sectionTables records section n 0) j (getD records (16 * j) 0) (getD l j 0)
+    → ComponentHas (sectionTables records section n 0) j (getD records (16 * j) 0) (getD l j 0)
 loaded records section l n j h k = record { known = k; states-known = states-at records j; alphabet-known = alphabets-each records n 0 l h j k }
 
 -- as it stands behind the branch
-kept : (T : Tables) (component i s a j states alphabet : ℕ) → AtHand T i s a → i ≡ component → j ≡ i → states ≡ s → alphabet ≡ a
-    → (j ≡ component) × AtHand T j states alphabet
+kept : (T : Tables) (component i s a j states alphabet : ℕ) → ComponentHas T i s a → i ≡ component → j ≡ i → states ≡ s → alphabet ≡ a
+    → (j ≡ component) × ComponentHas T j states alphabet
 kept T component i s a j states alphabet h e f g k = (f ∙ e, rw (f, g, k) h)
 
 abbrev Inv-loop : tie.InvT-loop
 Inv-loop section records alphabets n count current₀ states₀ alphabet₀ k₀ current states alphabet k =
     let T = sectionTables records section n 0 in
-    (count ≡ length section / 4) × AtHand T current states alphabet × (anyOf (transitionWrong T) (T .transitions) ≡ left T count k section)
+    (count ≡ length section / 4) × ComponentHas T current states alphabet
+    × (anyOf (transitionWrong T) (T .transitions) ≡ left T count k section)
 
 abbrev μ-loop : tie.MeasureT-loop
 μ-loop section records alphabets n count current₀ states₀ alphabet₀ k₀ current states alphabet k =
@@ -105,7 +106,7 @@ returns c =
 at-hand : (c : tie.Joined1 Inv-loop μ-loop)
     → let i = c .before .before in
     (c .if1 .current ≡ getD (start i .args .section .now) (4 * i .before .loop .k) 0)
-    × AtHand (wanted i) (c .if1 .current) (c .if1 .states) (c .if1 .alphabet)
+    × ComponentHas (wanted i) (c .if1 .current) (c .if1 .states) (c .if1 .alphabet)
 at-hand c =
     let i = c .before .before in
     let a = start i .args in
