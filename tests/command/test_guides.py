@@ -22,6 +22,8 @@ def sessions(page):
 
 
 class Guides(common.Case):
+    """G1: what the pages show is what the desk answers, and what they name is there."""
+
     def test_columns(self):
         """The table of columns has all of them, in their order."""
         with open(os.path.join(common.TOP, "docs/LECTURERS.md"), encoding="utf-8") as file:

@@ -236,7 +236,7 @@ class Input(Quiet):
 
 
 class Interrupted(Quiet):
-    """Ctrl-C ends the command as the signal does, and leaves nothing behind."""
+    """An interrupt is no answer (D1): Ctrl-C ends the command as the signal does, and leaves nothing behind."""
 
     def test_waiting_for_input(self):
         waiting = self.start([common.COMMAND, "make", "-", "-o", "made"])
@@ -278,7 +278,7 @@ class Interrupted(Quiet):
 
 
 class Places(Quiet):
-    """The command works from any folder, through a link, as a module and installed."""
+    """The answer is the desk's (G1) from any folder, through a link, as a module and installed; without a desk there is none."""
 
     def test_link_and_folder(self):
         os.symlink(common.COMMAND, "desk")

@@ -15,7 +15,7 @@ def page(name):
 
 
 class TextPage(common.Case):
-    """docs/TEXT.md"""
+    """docs/TEXT.md: its examples are read as it says (G1), and it tells the limits (L1 to L7)."""
 
     def test_blocks(self):
         first, second = re.findall(r"```\n(.*?)```", page("docs/TEXT.md"), re.S)
@@ -46,7 +46,7 @@ class TextPage(common.Case):
 
 
 class Readme(common.Case):
-    """The first use."""
+    """The first use: what the README shows is what the desk answers (G1)."""
 
     def test_commands(self):
         os.chdir(common.TOP)

@@ -215,7 +215,7 @@ class Executions(common.Case):
 
 
 class Indices(common.Case):
-    """What is written once and stands for many."""
+    """Q1, S5: what is written once and stands for many components, states, actions, transitions or steps."""
 
     def test_five_philosophers(self):
         self.assertLessEqual(PHILOSOPHERS.count("\n"), 13)
@@ -246,7 +246,7 @@ class Indices(common.Case):
 
 
 class Names(common.Case):
-    """Letters of any alphabet."""
+    """Names in letters of any alphabet: each stands for a number of the sheet (S4, S5)."""
 
     def test_alphabets(self):
         for name in ("öffnen", "открыть", "άνοιγμα", "打开", "فتح", "क्रिया", "p₁", "x'", "a.b!c?", "0.left"):

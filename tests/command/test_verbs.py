@@ -343,7 +343,7 @@ class Aldebaran(common.Case):
 
 
 class Command(common.Case):
-    """The table of verbs, help and version."""
+    """The verbs are what the desk covers (G1): their table, help and version. Wrong words get no answer (D1)."""
 
     def test_help(self):
         shown = self.call("--help")

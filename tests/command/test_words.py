@@ -192,7 +192,7 @@ class Steps(common.Case):
 
 
 class Places(common.Case):
-    """Where components may be and what is possible come from the desk."""
+    """E3, E5, A5: where components may be and what is possible come from the desk."""
 
     def test_possible_is_the_next_step(self):
         dice = common.dice(7)
@@ -210,5 +210,6 @@ class Places(common.Case):
                 steps.append([dice.choice(here)])
 
     def test_after_the_last_step_that_a_sheet_holds(self):
+        """L5, E3: a sheet has no room for one step more, and yet what is possible is told."""
         system, _ = text.read("component P\n states s\n initial s\n s -a-> s")
         self.assertEqual(places.possible(system, places.ends(system, Execution([[0]] * 1024))), [0])

@@ -6,7 +6,7 @@ use mathlib.Core.List.{List, [], _∷_, List·Memᴰ, List·Memᴰ·head, List·
 use Prim.Native.Nat.{ℕ, zero, suc, _+_, _-_, _*_, _/_, _%_, _^_, _≤_, _<_}
 use native.Mathlib.Nat.{pow-suc}
 use native.Mathlib.Omega.{arith}
-use lib.ListN.{length, getD}
+use lib.ListN.{getD}
 use Rattle.answers.specs.Report.{digitsBefore, decimal}
 use Rattle.answers.specs.Decimals.{valueAfter, value, Decimals}
 
@@ -76,12 +76,13 @@ below-power (suc x) = let e = pow-suc 10 x in let h = below-power x in omega ari
 abbrev Alike : ℕ → Type 0
 Alike k = (l x : ℕ) (t : List ℕ) → x < 10 ^ k → x < 10 ^ l → digitsBefore k x t ≡ digitsBefore l x t
 
-none-left : (l : ℕ) (t : List ℕ) → t ≡ digitsBefore l 0 t
-none-left zero t = refl
-none-left (suc l) t = refl
+-- P1: of 0 nothing is written in front
+pub digits-of-zero : (l : ℕ) (t : List ℕ) → t ≡ digitsBefore l 0 t
+digits-of-zero zero t = refl
+digits-of-zero (suc l) t = refl
 
 alike-more : (k : ℕ) → Alike k → Alike (suc k)
-alike-more k before l zero t h g = none-left l t
+alike-more k before l zero t h g = digits-of-zero l t
 alike-more k before zero (suc x) t h g = absurd (omega arith)
 alike-more k before (suc l) (suc x) t h g =
     let e = pow-suc 10 k in
@@ -89,7 +90,7 @@ alike-more k before (suc l) (suc x) t h g =
     before l (suc x / 10) ((48 + suc x % 10) ∷ t) (omega arith) (omega arith)
 
 alike : (k : ℕ) → Alike k
-alike zero l x t h g = let e : x ≡ 0 = omega arith in none-left l t ∙ ap (λ (y : ℕ). digitsBefore l y t) (omega arith)
+alike zero l x t h g = let e : x ≡ 0 = omega arith in digits-of-zero l t ∙ ap (λ (y : ℕ). digitsBefore l y t) (omega arith)
 alike (suc k) l x t h g = alike-more k (alike k) l x t h g
 
 -- a number that is not 0 and has at most k digits, in k places

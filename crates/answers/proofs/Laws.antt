@@ -8,6 +8,7 @@ use Prim.Native.Nat.{ℕ, _<_}
 use native.Mathlib.Omega.{arith}
 use lib.ListN.{length}
 use Rattle.sets.specs.Bits.{members}
+use Rattle.sets.proofs.Lists.{chosen}
 use Rattle.traces.specs.Steps.{Process}
 use Rattle.systems.specs.Lts.{IsLts}
 use Rattle.systems.specs.Interleaving.{Global, Reaches}
@@ -17,7 +18,6 @@ use Rattle.systems.specs.Tables.{ltsOf}
 use Rattle.systems.specs.Independence.{dependent}
 use Rattle.systems.specs.Running.{start}
 use Rattle.systems.specs.Checking.{flat}
-use Rattle.systems.proofs.Interleaving.{chosen}
 use Rattle.systems.proofs.Components.{component-lts, end-some}
 use Rattle.systems.proofs.Faults.{WellFormedSteps, fault-none}
 use Rattle.systems.proofs.Executions.{accepted-execution, execution-accepted, execution-ends, flat-linearization, picked-exact}

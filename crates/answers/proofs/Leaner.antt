@@ -41,25 +41,30 @@ module _ (b c : List ℕ) where
       let pair = two-given b c (won fewer) y in
       (λ e. let r = pair .0 e in (r .0, r .1, r .2, h .0 (r .3)), λ r. pair .1 (r .0, r .1, r .2, h .1 (r .3)))
 
+  -- A2, A3: the first sheet wins exactly when it has no more restated steps than the second
   pub winner-first : (winner b c ≡ given 0) ↔ (Accepted b × Accepted c × SameTables b c × (length (restatedSteps b) ≤ length (restatedSteps c)))
   winner-first = winner-by 0 (Iff·trans (won-first fewer) (ltb-false (length (restatedSteps c)) (length (restatedSteps b))))
 
+  -- A2, A3: the second wins exactly when it has fewer
   pub winner-second : (winner b c ≡ given 1) ↔ (Accepted b × Accepted c × SameTables b c × (length (restatedSteps c) < length (restatedSteps b)))
   winner-second = winner-by 1 (Iff·trans (won-second fewer) (ltb-true (length (restatedSteps c)) (length (restatedSteps b))))
 
+  -- A2: the step section of the sheet that wins is handed back
   pub leaner-first : winner b c ≡ given 0 → leaner b c ≡ stepSection b
   unfolding leaner
   leaner-first e = rw e
 
+  -- A2: so too where the second wins
   pub leaner-second : winner b c ≡ given 1 → leaner b c ≡ stepSection c
   unfolding leaner
   leaner-second e = rw e
 
+  -- A2: for a refused pair the part is empty
   pub leaner-refused : (k i s : ℕ) → winner b c ≡ refused k i s → leaner b c ≡ []
   unfolding leaner
   leaner-refused k i s e = rw e
 
--- the step section stands between the bytes before S and the trailer
+-- the step section stands between the bytes before S and the trailer (S2, A2)
 pub section-whole : (b : List ℕ) → Accepted b → front b ++ (stepSection b ++ drop (length b - 10) b) ≡ b
 unfolding front stepSection
 section-whole b acc = sections-joined b (accepted-limits b acc)

@@ -1,6 +1,7 @@
 pub mod Normal
 pub mod Restated
 pub mod Passing
+pub mod SizesRead
 pub mod Told
 pub mod LentOutput
 pub mod Relations

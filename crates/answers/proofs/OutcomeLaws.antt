@@ -1,12 +1,13 @@
 -- What the answers on one sheet are, proved: each record of `specs/OutcomeLaws.antt`.
 -- Assumes nothing.
 use mathlib.Core.Path.{_≡_, refl}
-use mathlib.Core.List.{List, map}
+use mathlib.Core.List.{List}
 use Prim.Native.Nat.{ℕ, _<_, _≤_}
 use lib.ListN.{length}
-use Rattle.sets.specs.Lists.{over, upward, below}
+use Rattle.sets.specs.Lists.{over}
 use Rattle.sets.proofs.Bools.{ltb-true, ltb-false}
-use Rattle.sets.proofs.Filling.{map-below-at}
+use Rattle.sets.proofs.Lists.{over-front, over-behind}
+use Rattle.sets.proofs.Filling.{map-below-length, map-below-at}
 use Rattle.sheet.specs.Bounds.{mostComponents}
 use Rattle.sheet.specs.Layout.{componentCount}
 use Rattle.sheet.specs.Verdict.{verdict}
@@ -17,7 +18,7 @@ use Rattle.answers.specs.Figure.{figureOutcome}
 use Rattle.answers.specs.Stuck.{stuckOutcome}
 use Rattle.answers.specs.Report.{report, reporting, reportOutput}
 use Rattle.answers.specs.OutcomeLaws.{OfAccepted, OneSheet, EndEntries, ReportLaws}
-use Rattle.answers.proofs.LentOutput.{fitting-short, fitting-long, output-front, output-behind}
+use Rattle.answers.proofs.LentOutput.{fitting-short, fitting-long}
 
 -- ---- the refusal, or the value
 
@@ -38,15 +39,11 @@ one-sheet =
 
 -- ---- the end sets
 
-entry-count : (f : ℕ → ℕ) → length (map f (below mostComponents)) ≡ mostComponents
-unfolding upward below
-entry-count f = refl
-
 -- E5: sixteen entries, the end set of each component and 0 beyond the last one
 pub end-entries : (b : List ℕ) → EndEntries b
 end-entries b =
     record {
-      sixteen = entry-count _;
+      sixteen = map-below-length _ mostComponents;
       of-component = λ j h l. rw (map-below-at, ltb-true j (componentCount b) .1 l);
       of-none = λ j h l. rw (map-below-at, ltb-false j (componentCount b) .1 l);
     }
@@ -61,11 +58,13 @@ report-told : (b : List ℕ) (size : ℕ) → length (report b) ≤ size → rep
 unfolding reporting
 report-told b size h = fitting-long (report b) size h
 
-output-kept : (b out : List ℕ) (k i s : ℕ) → reporting b (length out) ≡ refused k i s → reportOutput b out ≡ out
+-- O5: a refused call leaves the output as it came
+pub output-kept : (b out : List ℕ) (k i s : ℕ) → reporting b (length out) ≡ refused k i s → reportOutput b out ≡ out
 unfolding reportOutput
 output-kept b out k i s e = rw e
 
-output-over : (b out : List ℕ) (k : ℕ) → reporting b (length out) ≡ given k → reportOutput b out ≡ over (report b) out
+-- P1: the text is written over the front of the output
+pub output-over : (b out : List ℕ) (k : ℕ) → reporting b (length out) ≡ given k → reportOutput b out ≡ over (report b) out
 unfolding reportOutput
 output-over b out k e = rw e
 
@@ -75,6 +74,8 @@ reported b out =
     record {
       too-long = λ h. let e = report-too-long b (length out) h in (e, output-kept b out 13 0 0 e);
       told = report-told b (length out);
-      printed = λ h. rw (output-over b out (length (report b)) (report-told b (length out) h)) (output-front (report b) out (length (report b)) refl);
-      behind = λ h. rw (output-over b out (length (report b)) (report-told b (length out) h)) (output-behind (report b) out (length (report b)) refl);
+      printed = λ h.
+          rw (output-over b out (length (report b)) (report-told b (length out) h)) (over-front (report b) out (length (report b)) refl);
+      behind = λ h.
+          rw (output-over b out (length (report b)) (report-told b (length out) h)) (over-behind (report b) out (length (report b)) refl);
     }

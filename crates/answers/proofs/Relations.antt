@@ -26,6 +26,7 @@ use Rattle.answers.specs.Related.{SameTables, RelatedSheets}
 use Rattle.answers.proofs.Normal.{normal, related-normal, normal-related, normal-equal, normal-fewest, normal-only, normal-lt}
 use Rattle.answers.proofs.Restated.{restated-normal, accepted-limits, accepted-order, accepted-fine, front-short, count-small, restated-front, restated-components, restated-actions, restated-steps-at, restated-read-steps, restated-step-count, restated-is-accepted}
 
+-- N4: where bytes and counts are the same, the tables that are read from them are the same
 pub same-tables : {b c : List ℕ} → SameTables b c → tables b ≡ tables c
 unfolding tables
 same-tables {b} {c} s =
@@ -35,7 +36,7 @@ same-tables {b} {c} s =
 sheet-cong : {f g xs ys : List ℕ} {n k m l : ℕ} → f ≡ g → n ≡ k → m ≡ l → xs ≡ ys → sheetOf f n m xs ≡ sheetOf g k l ys
 sheet-cong p q r s = λ i. sheetOf (p i) (q i) (r i) (s i)
 
--- related sheets have the same restated steps
+-- related sheets have the same restated steps (D3)
 pub related-steps : {b c : List ℕ} → RelatedSheets b c → restatedSteps b ≡ restatedSteps c
 related-steps {b} {c} r =
     restated-normal b
@@ -43,7 +44,7 @@ related-steps {b} {c} r =
     ∙ ap (λ (T : Tables). normal T (steps c)) (same-tables (r .same-tables))
     ∙ sym (restated-normal c)
 
--- accepted sheets over the same tables that have the same restated steps are related
+-- accepted sheets over the same tables that have the same restated steps are related (D3)
 pub steps-related : (b c : List ℕ) → Accepted b → Accepted c → SameTables b c → restatedSteps b ≡ restatedSteps c → RelatedSheets b c
 steps-related b c acc acc′ same e =
     record { first-accepted = acc; second-accepted = acc′; same-tables = same; swaps = swapped }
@@ -56,13 +57,13 @@ steps-related b c acc acc′ same e =
         normal-equal (tables b) (accepted-order b acc) (steps b) (steps c) (accepted-fine b acc) fine
         (sym (restated-normal b) ∙ e ∙ restated-normal c ∙ ap (λ (T : Tables). normal T (steps c)) (sym (same-tables same)))
 
--- related sheets are restated as the same bytes
+-- D3: related sheets are restated as the same bytes
 pub related-same : {b c : List ℕ} → RelatedSheets b c → restated b ≡ restated c
 unfolding restated
 related-same r =
     sheet-cong (r .same-tables .same-front) (r .same-tables .same-components) (r .same-tables .same-actions) (related-steps r)
 
--- sheets restated as the same bytes are related
+-- D3: sheets restated as the same bytes are related
 pub same-related : (b c : List ℕ) → Accepted b → Accepted c → restated b ≡ restated c → RelatedSheets b c
 unfolding restated
 same-related b c acc acc′ e = steps-related b c acc acc′ same (parts .3)
@@ -86,6 +87,7 @@ same-related b c acc acc′ e = steps-related b c acc acc′ same (parts .3)
           same-actions = parts .2;
         }
 
+-- N8: the restated sheet keeps the tables (N4)
 pub restated-same-front : (b : List ℕ) → Accepted b → SameTables b (restated b)
 restated-same-front b acc =
     record {
@@ -95,6 +97,7 @@ restated-same-front b acc =
       same-actions = sym (restated-actions b acc);
     }
 
+-- D3: the restated sheet is related to its sheet
 pub restated-relation : (b : List ℕ) → Accepted b → RelatedSheets b (restated b)
 restated-relation b acc =
     record {
@@ -109,6 +112,7 @@ related-formed : {b c : List ℕ} → RelatedSheets b c → WellFormedSteps (tab
 related-formed {b} {c} r =
     rw (same-tables (r .same-tables)) (fault-none (tables c) (start (tables c)) 0 (steps c) .0 (accepted-fine c (r .second-accepted)) .0)
 
+-- D3: no related sheet has fewer steps than the restated one
 pub fewest : {b c : List ℕ} → RelatedSheets b c → stepCount (restated b) ≤ stepCount c
 fewest {b} {c} r =
     let acc = r .first-accepted in
@@ -119,10 +123,11 @@ fewest {b} {c} r =
     let right = steps-length c in
     omega arith
 
+-- D3: restating the restated sheet gives the same bytes
 pub restated-twice : (b : List ℕ) → Accepted b → restated (restated b) ≡ restated b
 restated-twice b acc = sym (related-same (restated-relation b acc))
 
--- a sheet that meets the process condition is its own restated sheet
+-- N8: a sheet that meets the process condition (N6) is its own restated sheet
 pub process-own : (c : List ℕ) → AreBytes c → Accepted c → Process (dependent (tables c)) (map members (steps c)) → restated c ≡ c
 unfolding restated
 process-own c bs acc p =

@@ -57,7 +57,7 @@ differ-false b c = (
     s : Bool
     s = not (eqb (actionCount b) (actionCount c))
 
--- ---- the refusals of a pair, in the printed order
+-- ---- the refusals of a pair, in the printed order (O6, O7)
 
 differ-due : {A : Type 0} (b c : List ℕ) (x : A) → RefusesBy (TablesDiffer b c) (unlessDiffer (tablesDiffer b c) x)
 differ-due b c x k i s = go (tablesDiffer b c) refl
@@ -72,10 +72,12 @@ differ-due b c x k i s = go (tablesDiffer b c) refl
       λ p. absurd (p .0 (differ-false b c .0 q)),
     )
 
+-- O6, O7: a pair is refused exactly by the first refusal that is due, told with its sheet
 pub two-refuses : {A : Type 0} (b c : List ℕ) (x : A) → RefusesBy (TwoSheetRefusal b c) (ofTwo b c x)
 unfolding ofTwo
 two-refuses b c x = after-sheet 0 b _ _ (after-sheet 1 c _ _ (differ-due b c x))
 
+-- R14: two accepted sheets whose tables differ are refused by 14
 pub two-apart : {A : Type 0} (b c : List ℕ) (x : A) → Accepted b → Accepted c → ¬ SameTables b c → ofTwo b c x ≡ refused 14 0 0
 unfolding ofTwo
 two-apart b c x acc acc′ n = rw (acc, acc′, differ)
@@ -83,7 +85,7 @@ two-apart b c x acc acc′ n = rw (acc, acc′, differ)
     differ : tablesDiffer b c ≡ true
     differ = elim (true-or-false (tablesDiffer b c)) [ inl t ↦ t | inr f ↦ absurd (n (differ-false b c .0 f)) ]
 
--- a pair gets x as its answer exactly when both sheets are accepted over the same tables
+-- O6: a pair gets x as its answer exactly when both sheets are accepted over the same tables
 pub two-given : {A : Type 0} (b c : List ℕ) (x y : A) → (ofTwo b c x ≡ given y) ↔ (Accepted b × Accepted c × SameTables b c × (x ≡ y))
 unfolding ofTwo
 two-given {A} b c x y = (
@@ -98,6 +100,9 @@ two-given {A} b c x y = (
     passed true e = let z : _≡_ {A = ℕ} 0 1 = cc in absurd (omega arith)
     passed false e = (refl, cc)
 
+-- ---- same work (A1)
+
+-- A1: yes exactly for related sheets
 pub work-same : (b c : List ℕ) → (sameWork b c ≡ given true) ↔ RelatedSheets b c
 unfolding sameWork
 work-same b c = (
@@ -107,6 +112,7 @@ work-same b c = (
       (r .first-accepted, r .second-accepted, r .same-tables, same-numbers (restatedSteps b) (restatedSteps c) .1 (related-steps r)),
 )
 
+-- A1: no exactly for accepted sheets over the same tables that are not related
 pub work-other : (b c : List ℕ) → (sameWork b c ≡ given false) ↔ (Accepted b × Accepted c × SameTables b c × (¬ RelatedSheets b c))
 unfolding sameWork
 work-other b c = (

@@ -18,6 +18,7 @@ use Rattle.answers.specs.Report.{report}
 abbrev pub Refusal : Type 1
 Refusal = ℕ → ℕ → ℕ → Type 0
 
+-- O1: no refusal is due
 abbrev pub NoRefusal : Refusal
 NoRefusal k i s = ⊥
 
@@ -37,16 +38,19 @@ TooShort room text k i s = (room < length text) × Numbered 13 k i s
 abbrev pub TablesDiffer : List ℕ → List ℕ → Refusal
 TablesDiffer b c k i s = (¬ SameTables b c) × Numbered 14 k i s
 
--- O1 to O7: the refusal of each call: on one sheet, restating, the report (a refused sheet has a text too), and on two sheets
+-- O1: the refusal of a call on one sheet: 1 to 12
 abbrev pub SheetRefusal : List ℕ → Refusal
 SheetRefusal b = AfterSheet 0 b NoRefusal
 
+-- O1, R13: of restating: 1 to 12, then 13 where the restated sheet is longer than the output
 abbrev pub RestateRefusal : List ℕ → ℕ → Refusal
 RestateRefusal b room = AfterSheet 0 b (TooShort room (restated b))
 
+-- R13: of the report: 13 alone, since a refused sheet has a text too
 abbrev pub ReportRefusal : List ℕ → ℕ → Refusal
 ReportRefusal b room = TooShort room (report b)
 
+-- O6, O7: of a call on two sheets: 1 to 12 of the first, then of the second, then 14
 abbrev pub TwoSheetRefusal : List ℕ → List ℕ → Refusal
 TwoSheetRefusal b c = AfterSheet 0 b (AfterSheet 1 c (TablesDiffer b c))
 
@@ -54,20 +58,20 @@ TwoSheetRefusal b c = AfterSheet 0 b (AfterSheet 1 c (TablesDiffer b c))
 abbrev pub AtMostOne : Refusal → Type 0
 AtMostOne P = (k i s l j t : ℕ) → P k i s → P l j t → (k ≡ l) × (i ≡ j) × (s ≡ t)
 
--- the outcome is a refusal exactly where one is due
+-- D1: the outcome is a refusal exactly where one is due
 abbrev pub RefusesBy : {A : Type 0} → Refusal → Outcome A → Type 0
 RefusesBy P o = (k i s : ℕ) → (o ≡ refused k i s) ↔ P k i s
 
--- the answer is a refusal exactly where one is due
+-- D1: the answer is a refusal exactly where one is due
 abbrev pub RefusedExactly : Refusal → Answer → Type 0
 RefusedExactly P r = (k i s : ℕ) → (r ≡ Answer.Refused k i s) ↔ P k i s
 
--- the answer is the refusal that is due, else the sizes of the sheet
+-- the answer is the refusal that is due, else the sizes of the sheet (D1, F1)
 pub record SizesOr (P : Refusal) (r : Answer) : Type 0 where
   pub refused-exactly : RefusedExactly P r
   pub no-number : (x : ℕ) → ¬ (r ≡ Answer.Given x)
 
--- the answer is the refusal that is due, else a number
+-- the answer is the refusal that is due, else a number (D1)
 pub record NumberOr (P : Refusal) (r : Answer) : Type 0 where
   pub refused-exactly : RefusedExactly P r
   pub no-sizes : (z : Sizes) → ¬ (r ≡ Answer.Accepted z)

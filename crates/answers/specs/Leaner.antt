@@ -20,11 +20,12 @@ winner b c = ofTwo b c (cond (ltb (length (restatedSteps c)) (length (restatedSt
 unfoldable pub stepSection : List ℕ → List ℕ
 stepSection b = take (stepSize * stepCount b) (drop (stepsAt b) b)
 
--- the section of the sheet that won; nothing for a refused pair
+-- the section of the sheet that won; nothing for a refused pair (A2)
 abbrev pub sectionBy : Outcome ℕ → List ℕ → List ℕ → List ℕ
 sectionBy (given zero) first second = first
 sectionBy (given (suc k)) first second = second
 sectionBy (refused k i s) first second = []
 
+-- A2: the step section of the leaner sheet
 unfoldable pub leaner : List ℕ → List ℕ → List ℕ
 leaner b c = sectionBy (winner b c) (stepSection b) (stepSection c)

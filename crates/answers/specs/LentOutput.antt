@@ -9,6 +9,7 @@ use lib.ListN.{length}
 use Rattle.sets.specs.Lists.{over}
 use Rattle.answers.specs.Outcomes.{Outcome, given, refused}
 
+-- refusal 13 where the output is too short, else the length k (R13)
 abbrev pub unlessShort : Bool → ℕ → Outcome ℕ
 unlessShort true k = refused 13 0 0
 unlessShort false k = given k

@@ -1,4 +1,5 @@
 pub mod Outcomes
+pub mod SizesRead
 pub mod LentOutput
 pub mod Ends
 pub mod Restated

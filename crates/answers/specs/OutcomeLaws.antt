@@ -3,7 +3,6 @@
 -- Assumes nothing.
 use mathlib.Core.Path.{_≡_}
 use mathlib.Core.List.{List, map}
-use mathlib.Core.Option.{Option}
 use Prim.Native.Nat.{ℕ, _<_, _≤_}
 use lib.ListN.{length, take, drop, getD}
 use Rattle.sets.specs.Bits.{members}
@@ -19,7 +18,7 @@ use Rattle.answers.specs.Figure.{figure, figureOutcome}
 use Rattle.answers.specs.Stuck.{stuck, stuckOutcome}
 use Rattle.answers.specs.Report.{report, reporting, reportOutput}
 
--- the refusal of a refused sheet, with its step index; of an accepted one the value
+-- the refusal of a refused sheet, with its step index; of an accepted one the value (O1, O4)
 pub record OfAccepted {A : Type 0} (outcome : List ℕ → Outcome A) (value : List ℕ → A) : Type 0 where
   pub of-refused : (b : List ℕ) (k i : ℕ) → verdict b ≡ Verdict.refused k i → outcome b ≡ refused k i 0
   pub of-accepted : (b : List ℕ) → Accepted b → outcome b ≡ given (value b)

@@ -13,16 +13,16 @@ pub data Outcome (A : Type 0) : Type 0 where
   given : A → Outcome A
   refused : ℕ → ℕ → ℕ → Outcome A
 
--- what was asked for, written as numbers
+-- what was asked for, written as numbers (F10)
 abbrev pub values : {A : Type 0} → (A → List ℕ) → Outcome A → Outcome (List ℕ)
 values f (given x) = given (f x)
 values f (refused k i s) = refused k i s
 
--- one number
+-- one number (F10)
 abbrev pub oneValue : ℕ → List ℕ
 oneValue x = x ∷ []
 
--- 1 for yes, 0 for no
+-- 1 for yes, 0 for no (F10, P3)
 abbrev pub bit : Bool → ℕ
 bit true = 1
 bit false = 0
@@ -38,14 +38,14 @@ abbrev pub onSheet : {A : Type 0} → ℕ → Verdict → Outcome A → Outcome 
 onSheet s (Verdict.refused k i) later = refused k i s
 onSheet s Verdict.accepted later = later
 
--- the outcome of a call on one sheet, after refusals 1 to 12
+-- the outcome of a call on one sheet, after refusals 1 to 12 (O1)
 abbrev pub after : {A : Type 0} → Verdict → Outcome A → Outcome A
 after v later = onSheet 0 v later
 
--- n, m, T and S of a sheet
+-- n, m, T and S of a sheet (S6, F1)
 abbrev pub sizesOf : List ℕ → List ℕ
 sizesOf b = componentCount b ∷ actionCount b ∷ transitionsAt b ∷ stepsAt b ∷ []
 
--- a verdict on the sheet as a reader tells it: the sizes, or the refusal
+-- a verdict on the sheet as a reader tells it: the sizes, or the refusal (F1)
 abbrev pub readOutcome : List ℕ → Verdict → Outcome (List ℕ)
 readOutcome b v = after v (given (sizesOf b))

@@ -5,6 +5,7 @@ use Prim.Native.Nat.{ℕ}
 use Rattle.sheet.specs.Numbers.{bytes}
 use Rattle.sheet.specs.Writing.{sheetOf}
 
+-- S3: a record, of 16 bytes: the number of states, three bytes of zero, the set of initial states and the alphabet
 abbrev pub recordBytes : ℕ → ℕ → ℕ → List ℕ
 recordBytes states initial alphabet = states ∷ 0 ∷ 0 ∷ 0 ∷ (bytes 4 initial ++ bytes 8 alphabet)
 

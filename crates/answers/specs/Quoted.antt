@@ -5,7 +5,7 @@ use Prim.Native.Nat.{ℕ}
 use Prim.Native.Char.{code}
 use Prim.Native.String.{String}
 
--- the codes of its characters
+-- the codes of its characters (P1, X1)
 abbrev pub textOf : String → List ℕ
 textOf String.[] = []
 textOf (String._∷_ c s) = code c ∷ textOf s

@@ -15,31 +15,34 @@ use Rattle.answers.specs.Restated.{restatedSteps}
 use Rattle.answers.specs.Figure.{figure}
 use Rattle.answers.specs.Stuck.{stuck}
 
--- the decimal digits of x, none for 0, before the text so far; at most k of them
+-- the decimal digits of x, none for 0, before the text so far; at most k of them (P1)
 abbrev pub digitsBefore : ℕ → ℕ → List ℕ → List ℕ
 digitsBefore zero x text = text
 digitsBefore (suc k) zero text = text
 digitsBefore (suc k) (suc x) text = digitsBefore k (suc x / 10) ((48 + suc x % 10) ∷ text)
 
--- a number in decimal; a number has at most as many digits as it counts, so none is left out
+-- P1: a number in decimal; a number has at most as many digits as it counts, so none is left out
 abbrev pub decimal : ℕ → List ℕ
 decimal zero = 48 ∷ []
 decimal (suc x) = digitsBefore (suc x) (suc x) []
 
--- the words accepted, refused, step and end
+-- P3: the word accepted
 abbrev pub acceptedWord : List ℕ
 acceptedWord = 97 ∷ 99 ∷ 99 ∷ 101 ∷ 112 ∷ 116 ∷ 101 ∷ 100 ∷ []
 
+-- P2: the word refused
 abbrev pub refusedWord : List ℕ
 refusedWord = 114 ∷ 101 ∷ 102 ∷ 117 ∷ 115 ∷ 101 ∷ 100 ∷ []
 
+-- P4: the word step
 abbrev pub stepWord : List ℕ
 stepWord = 115 ∷ 116 ∷ 101 ∷ 112 ∷ []
 
+-- P5: the word end
 abbrev pub endWord : List ℕ
 endWord = 101 ∷ 110 ∷ 100 ∷ []
 
--- a space and the number
+-- P1: a space and the number
 abbrev pub part : ℕ → List ℕ
 part x = 32 ∷ decimal x
 
@@ -51,11 +54,11 @@ line word xs = word ++ (appendAll (map part xs) ++ (10 ∷ []))
 unfoldable pub summaryLine : List ℕ → List ℕ
 summaryLine b = line acceptedWord (stepCount b ∷ length (restatedSteps b) ∷ figure b ∷ bit (stuck b) ∷ [])
 
--- a line for each of some steps, with its actions, rising
+-- a line for each of some steps, with its actions, rising (P4)
 abbrev pub stepTexts : List ℕ → List ℕ
 stepTexts xs = appendAll (map (λ x. line stepWord (members x)) xs)
 
--- a line for each of some components: its index and the states of the set that it holds, rising
+-- a line for each of some components: its index and the states of the set that it holds, rising (P5)
 abbrev pub endTexts : (ℕ → ℕ) → List ℕ → List ℕ
 endTexts held js = appendAll (map (λ j. line endWord (j ∷ members (held j))) js)
 
@@ -67,6 +70,7 @@ stepLines b = stepTexts (restatedSteps b)
 unfoldable pub endLines : List ℕ → List ℕ
 endLines b = endTexts (endSet b) (below (componentCount b))
 
+-- the line of a refused sheet (P2); of an accepted one the text that is given
 abbrev pub reportBy : Verdict → List ℕ → List ℕ
 reportBy (refused k i) text = line refusedWord (k ∷ i ∷ [])
 reportBy accepted text = text
@@ -75,14 +79,14 @@ reportBy accepted text = text
 unfoldable pub report : List ℕ → List ℕ
 report b = reportBy (verdict b) (summaryLine b ++ (stepLines b ++ endLines b))
 
--- so many bytes serve for every text: report-serves (report/Demands)
+-- so many bytes serve for every text, so that 13 is never told (R13): report-serves (report/Demands)
 abbrev pub reportRoom : ℕ
 reportRoom = 16384
 
--- how many bytes are printed for the sheet b into an output of `size` bytes, or 13
+-- how many bytes are printed for the sheet b into an output of `size` bytes, or 13 (R13)
 unfoldable pub reporting : List ℕ → ℕ → Outcome ℕ
 reporting b size = lengthOr13 (report b) size
 
--- the output afterwards
+-- the output afterwards (O5)
 unfoldable pub reportOutput : List ℕ → List ℕ → List ℕ
 reportOutput b out = outputBy (reporting b (length out)) (report b) out

@@ -13,18 +13,23 @@ use Rattle.answers.specs.Restated.{restated}
 use Rattle.answers.specs.Quoted.{textOf}
 use Rattle.answers.specs.Pair.{pairSheet}
 
+-- ---- the table (X2, C3)
+
 -- restated as these steps, with the end sets of components 0 and 1; or refused, with number and step index
 pub data DueResult : Type 0 where
   becomes : List ℕ → ℕ → ℕ → DueResult
   refusedBy : ℕ → ℕ → DueResult
 
+-- a trial: the steps that are given, and what is to come of them
 pub record Trial : Type 0 where
   pub given : List ℕ
   pub due : DueResult
 
+-- the trial with these steps and this result
 abbrev pub trial : List ℕ → DueResult → Trial
 trial xs o = record { given = xs; due = o }
 
+-- X2: the ten sheets over Pair: six that are accepted and four that are refused
 abbrev pub starred : List Trial
 starred =
     -- no steps
@@ -45,22 +50,27 @@ starred =
     ∷ trial (0b1 ∷ 0b101 ∷ []) (refusedBy 11 1)
     ∷ []
 
+-- the verdict is accepted
 abbrev pub isAccepted : Verdict → Bool
 isAccepted accepted = true
 isAccepted (refused k i) = false
 
+-- the verdict is this refusal, with number and step index
 abbrev pub isRefusedBy : Verdict → ℕ → ℕ → Bool
 isRefusedBy accepted k i = false
 isRefusedBy (refused r p) k i = eqb r k && eqb p i
 
--- the trial comes out as the table says
+-- of the sheet b comes what is due
 abbrev pub holdsFor : List ℕ → DueResult → Bool
 holdsFor b (becomes ys e₀ e₁) =
     isAccepted (verdict b) && sameNumbers (restated b) (pairSheet ys) && eqb (endSet b 0) e₀ && eqb (endSet b 1) e₁
 holdsFor b (refusedBy k i) = isRefusedBy (verdict b) k i
 
+-- the trial comes out as the table says
 abbrev pub holds : Trial → Bool
 holds c = holdsFor (pairSheet (c .given)) (c .due)
+
+-- ---- the worked example (X1)
 
 -- X1: the worked example, with the steps {0} {1} {2} {0}
 abbrev pub workedSheet : List ℕ

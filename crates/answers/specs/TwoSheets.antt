@@ -16,10 +16,11 @@ tablesDiffer b c =
     not (sameNumbers (front b) (front c)) || not (eqb (stepsAt b) (stepsAt c))
     || not (eqb (componentCount b) (componentCount c)) || not (eqb (actionCount b) (actionCount c))
 
+-- refusal 14 where the tables differ, else x (R14)
 abbrev pub unlessDiffer : {A : Type 0} → Bool → A → Outcome A
 unlessDiffer true x = refused 14 0 0
 unlessDiffer false x = given x
 
--- x as the answer for the two sheets, unless the pair is refused
+-- O6, O7: x as the answer for the two sheets, unless the pair is refused
 unfoldable pub ofTwo : {A : Type 0} → List ℕ → List ℕ → A → Outcome A
 ofTwo b c x = onSheet 0 (verdict b) (onSheet 1 (verdict c) (unlessDiffer (tablesDiffer b c) x))

@@ -1,4 +1,5 @@
--- Two lists of numbers compared one by one: the first difference tells them apart, and without one they are the same.
+-- Two lists of numbers compared one by one: the first difference tells them apart, and without one they are the same. So the bytes
+-- of two tables are compared (R14), and the restated steps of two sheets (A1).
 -- Assumes nothing.
 use mathlib.Core.Path.{_≡_, sym, ap}
 use mathlib.Core.Bool.{true, false}
@@ -11,6 +12,8 @@ use lib.Seq.{ext-getD}
 use Rattle.sets.proofs.Bools.{false-iff}
 use Rattle.sheet.specs.Refusals.{sameNumbers}
 use Rattle.sheet.proofs.Limits.{same-numbers}
+
+-- ---- the comparing of tables (R14) and of restated steps (A1)
 
 -- the lists are as long as each other, and the same below i
 pub record SameTo (a b : List ℕ) (i : ℕ) : Type 0 where

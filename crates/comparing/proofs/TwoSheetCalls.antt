@@ -30,7 +30,7 @@ bit-cond : (t : Bool) → bit t ≡ cond t 1 0
 bit-cond true = refl
 bit-cond false = refl
 
--- ---- a pair that passed
+-- ---- a pair that passed (A1 to A3)
 
 module _ {b c : List ℕ} {z : Sizes} (p : BothPassed b c z) where
   pub both-accepted : AcceptedSheet b z × AcceptedSheet c z
@@ -62,7 +62,7 @@ module _ {b c : List ℕ} {z : Sizes} (p : BothPassed b c z) where
   pub section-second : (p : List ℕ) (t : Bool) → t ≡ true → t ≡ fewer b c → p ≡ upToTrailer (z .s) c → LeanerPart b c p
   section-second q t f w h = section-all c z (p .second-accepted) q h ∙ sym (leaner-second b c (winner-is true (sym f ∙ w)))
 
--- ---- a pair that was refused
+-- ---- a pair that was refused (O6), and its empty part (A2)
 
 module _ {b c : List ℕ} {a : Answer} (s : TwoRefused b c a) where
   refuses : {A : Type 0} (x : A) → refused (s .number) (s .index) (s .sheet) ≡ ofTwo b c x

@@ -17,14 +17,13 @@ use Rattle.sets.specs.Lists.{anyOf, Distinct}
 use Rattle.sets.specs.Bits.{member, members}
 use Rattle.sets.proofs.Bools.{not-both, iff-bool, and-true, eqb-true, eqb-false}
 use Rattle.sets.proofs.Lists.{anyOf-intro, anyOf-elim, none-false}
-use Rattle.sets.proofs.Members.{member-zero, member-and, member-some, member-lt, members-mem}
+use Rattle.sets.proofs.Members.{member-zero, member-and, member-some, member-lt, members-mem, members-distinct}
 use Rattle.traces.specs.Foata.{further, reach}
 use Rattle.traces.proofs.Reach.{reach-or}
 use Rattle.systems.specs.Tables.{Tables, InOrder}
 use Rattle.systems.specs.Independence.{dependent}
 use Rattle.systems.specs.Checking.{notApart}
 use Rattle.systems.proofs.Dependence.{ShareAlphabet, OneEach, dependent-cases, dependent-shares, clash-exact}
-use Rattle.systems.proofs.Executions.{members-distinct}
 use Rattle.sheet.specs.Sections.{Alphabets}
 use Rattle.dependence.specs.participants.Participants.{participates, Participants, OfSixteen}
 use Rattle.dependence.specs.participants.Levels.{largest}

@@ -88,7 +88,7 @@ call-demand1 =
           c .output-left ∙ output-laws .refused-untouched b out k i s (refused-only oneValue (restating b (length out)) k i s (c .answer-told));
     }
 
--- ---- demand 2
+-- ---- demand 2 (D2)
 
 sets-at : (b : List ℕ) (r : EndSets) → EndSetsAnswer b r → Accepted b → (j : ℕ) → j < mostComponents
     → getD (r .sets) j 0 ≡ cond (ltb j (componentCount b)) (endSet b j) 0
@@ -120,7 +120,7 @@ call-demand2 =
       picked-exactly = picked;
     }
 
--- ---- demand 3
+-- ---- demand 3 (D3)
 
 given-accepted : (b : List ℕ) (size k : ℕ) → restating b size ≡ given k → Accepted b
 unfolding restating
@@ -133,9 +133,11 @@ given-accepted b size k e = go (verdict b) refl e
 wrote-given : {b w : List ℕ} (o : RestateWrote b w) → restating b (length (o .lent)) ≡ given (o .count)
 wrote-given {b} {w} o = number-only (restating b (length (o .lent))) (o .count) (o .call .answer-told)
 
+-- a sheet for which restate wrote bytes is accepted (D3)
 pub wrote-accepted : {b w : List ℕ} → RestateWrote b w → Accepted b
 wrote-accepted {b} {w} o = given-accepted b (length (o .lent)) (o .count) (wrote-given o)
 
+-- what it wrote is the restated sheet (D3)
 pub wrote-restated : {b w : List ℕ} → RestateWrote b w → w ≡ restated b
 wrote-restated {b} {w} o = o .bytes ∙ ap (take (o .count)) (o .call .output-left) ∙ given-written b (o .lent) (o .count) (wrote-given o)
 

@@ -25,7 +25,7 @@ abbrev pub endArrayBy : Verdict → List ℕ → List ℕ
 endArrayBy accepted b = endArray b
 endArrayBy (refused k i) b = replicate mostComponents 0
 
--- the end sets: the verdict, and the array
+-- E5: the end sets: the verdict, and the array
 pub record EndSetsAnswer (b : List ℕ) (r : EndSets) : Type 0 where
   pub answer-told : CheckAnswer b (r .answer)
   pub sets-told : r .sets ≡ endArrayBy (verdict b) b

@@ -31,12 +31,12 @@ use Rattle.answers.specs.Related.{RelatedSheets}
 use Rattle.answers.specs.declared.EndSets.{EndSets}
 use Rattle.desk.specs.Calls.{CheckAnswer, EndSetsAnswer, ProcessAnswer, RestateAnswer, FigureAnswer, StuckAnswer}
 
--- the answer says accepted
+-- the answer says accepted (D2)
 pub record SaysAccepted (r : Answer) : Type 0 where
   pub sizes : Sizes
   pub told : r ≡ Answer.Accepted sizes
 
--- w is what a call of restate wrote for the sheet b
+-- w is what a call of restate wrote for the sheet b (D3)
 pub record RestateWrote (b w : List ℕ) : Type 0 where
   pub lent : List ℕ
   pub left : List ℕ
@@ -90,7 +90,7 @@ pub record Demand3 : Type 1 where
   pub written-again : (b w out left : List ℕ) (r : Answer) → RestateWrote b w → RestateAnswer w out r left → length w ≤ length out
       → (r ≡ Answer.Given (length w)) × (take (length w) left ≡ w)
 
--- What the other calls answer for an accepted sheet.
+-- What the other calls answer for an accepted sheet (N7, E5, A4, A5).
 pub record AnswerDemand : Type 1 where
   -- N7: the process check: yes exactly of process executions, else one past the first step that offends
   pub process-exactly : (b : List ℕ) (r : Answer) → ProcessAnswer b r → (r ≡ Answer.Given 0) ↔ (Accepted b × ProcessIn b)

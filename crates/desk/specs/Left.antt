@@ -8,11 +8,11 @@ use lib.Dec.{ltb}
 use lib.ListN.{length, take, getD}
 use Rattle.sheet.specs.Bounds.{mostComponents, mostSteps}
 use Rattle.sheet.specs.Layout.{componentCount, tables}
-use Rattle.sheet.specs.Verdict.{verdict, Accepted}
+use Rattle.sheet.specs.Verdict.{Verdict, accepted, verdict, Accepted}
 use Rattle.dependence.specs.participants.Participants.{Participants}
 use Rattle.answers.specs.declared.Sizes.{Sizes}
 use Rattle.answers.specs.declared.Answer.{Answer}
-use Rattle.answers.specs.declared.Answer.the-variants.{Accepted as AcceptedAnswer, Given, Refused}
+use Rattle.answers.specs.declared.Answer.the-variants.{Accepted as AcceptedAnswer}
 use Rattle.answers.specs.Outcomes.{outcomeOf, readOutcome}
 use Rattle.answers.specs.Ends.{endSet}
 use Rattle.answers.specs.Restated.{restatedSteps}
@@ -21,11 +21,11 @@ use Rattle.answers.specs.Restated.{restatedSteps}
 abbrev pub setBelow : List ℕ → ℕ → ℕ → ℕ
 setBelow l n j = cond (ltb j n) (getD l j 0) 0
 
--- O1, S6: the refusal of an answer, or the sizes where it is none
-abbrev pub refusalOrSizes : Answer → Sizes → Answer
-refusalOrSizes (AcceptedAnswer y) z = AcceptedAnswer z
-refusalOrSizes (Given x) z = AcceptedAnswer z
-refusalOrSizes (Refused k i s) z = Refused k i s
+-- O1, S6: what the answer a tells of a sheet that has the sizes z, the answer r tells too
+abbrev pub ToldWithSizes : Answer → Sizes → Answer → Type 0
+ToldWithSizes a z r =
+    (b : List ℕ) (v : Verdict) → outcomeOf (AcceptedAnswer z) ≡ readOutcome b accepted → outcomeOf a ≡ readOutcome b v
+    → outcomeOf r ≡ readOutcome b v
 
 -- O1, E5: the answer on the sheet b, and the array afterwards: of an accepted sheet its first sets are the end sets
 pub record EndsLeft (b : List ℕ) (r : Answer) (held : List ℕ) : Type 0 where

@@ -6,14 +6,14 @@ ghost use lib.ListN.{length, replicate};
 ghost use Rattle.sets.specs.Lists.{below};
 ghost use Rattle.reading.specs.Reading.{TrailerPassed};
 ghost use Rattle.desk.specs.Calls.{CheckAnswer, EndSetsAnswer};
-ghost use Rattle.desk.specs.Left.{setBelow, refusalOrSizes, EndsLeft, ParticipantsLeft};
+ghost use Rattle.desk.specs.Left.{setBelow, ToldWithSizes, EndsLeft, ParticipantsLeft};
 use answers::Answer;
 use answers::EndSets;
 use answers::Sizes;
 
 // The refusal of an answer, or the sizes. It is taken apart and put together: copied as a whole, an answer just written is waited for.
 fn refusal_or_sizes(answer: Answer, sizes: Sizes) -> Answer
-    ensures { λ r. ⌜ r ≡ refusalOrSizes answer sizes ⌝ }
+    ensures { λ r. ⌜ ToldWithSizes answer sizes r ⌝ }
 {
     let Answer::Refused {
         number,
@@ -43,7 +43,7 @@ pub fn judge_tables(
 {
     let mut alphabets = [0u64; 16];
     let read = reading::read_tables(sheet, sizes, &mut alphabets);
-    let Answer::Accepted(known) = read else {
+    let Answer::Accepted(_) = read else {
         return read;
     };
     let s = sizes.s;

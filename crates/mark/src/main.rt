@@ -9,8 +9,10 @@ ghost use Prim.Native.Nat.{_≤_};
 ghost use lib.ListN.{length, take};
 ghost use Rattle.io.specs.Counts.{Counts};
 ghost use Rattle.answers.specs.Report.{report, reportRoom};
+ghost use Rattle.mark.specs.Streams.{bytesRead};
 use oatmist::Answer;
 use stream::Input;
+use stream::Output;
 
 // Puts what is to be written into the front of the text: the report of the first n bytes of the buffer, which are what was read. Answers
 // how many bytes that is.
@@ -26,11 +28,26 @@ fn put_report(n: usize, sheet: &[u8], text: &mut [u8]) -> usize
     size as usize
 }
 
-// Tells that the whole answer was written, on descriptor 3, to a caller that asked for it by an argument.
-fn tell_written() {
+// Tells that the whole answer was written, on descriptor 3, to a caller that asked for it by an argument. Only who has written as many
+// bytes as the report of what was read has may tell so.
+fn tell_written(put: usize, input: Input, sheet: &[u8])
+    requires { ⌜ put ≡ length (report (bytesRead input (now sheet))) ⌝ }
+{
     if os::arg_count() > 1 {
         libc::write(3, b"written\n");
     }
+}
+
+// Writes the text, which must be the report of the bytes that reading gave, and tells that it is written.
+fn give_answer(input: Input, sheet: &[u8], text: &[u8])
+    requires { ⌜ now text ≡ report (bytesRead input (now sheet)) ⌝ }
+{
+    let output = stream::write_to_end(1, text);
+    let Output::Whole(put) = output else {
+        os::fail(b"mark: standard output");
+        return;
+    };
+    tell_written(put, input, sheet);
 }
 
 fn main() {
@@ -42,9 +59,5 @@ fn main() {
     };
     let mut text = io::large_buffer();
     let size = put_report(n, &sheet, &mut text);
-    if stream::write_to_end(1, &text[..size]) < 0 {
-        os::fail(b"mark: standard output");
-        return;
-    }
-    tell_written();
+    give_answer(input, &sheet, &text[..size]);
 }

@@ -1,13 +1,19 @@
 // Reading to the end of the input, and writing all of a text. A call that a signal broke off, or that found the descriptor not ready, is
 // made again; any other failure ends the work, and errno then has its reason.
 ghost use lib.ListN.{length};
-ghost use Rattle.libc.specs.Io.{Moved, Status};
-ghost use Rattle.mark.specs.Inputs.{ReadAtMost};
+ghost use Rattle.libc.specs.Io.{Moved};
+ghost use Rattle.mark.specs.Streams.{ReadAtMost, AllWritten};
 
 // What came of reading to the end: so many bytes stand in front of the buffer; or a read failed.
 pub enum Input {
     Whole(usize),
     Unreadable,
+}
+
+// What came of writing: so many bytes were written, which are all; or a write failed, when a part of them may be written.
+pub enum Output {
+    Whole(usize),
+    Unwritable,
 }
 
 // A proved loop has to end, and nothing says that a descriptor is ready one day. So such a loop counts its turns down, from a number that
@@ -75,24 +81,24 @@ pub fn read_to_end(fd: i32, buf: &mut [u8]) -> Input
         }
         let more = io::count(got, &buf[done..]);
         if more == 0 {
-            return Input::Whole(done);
+            break;
         }
         done += more;
     }
     Input::Whole(done)
 }
 
-// Writes all of the text. Answers 0, or -1 where a write failed, when a part of it may be written.
-pub fn write_to_end(fd: i32, text: &[u8]) -> i32
-    ensures { λ r. ⌜ Status r ⌝ }
+// Writes all of the text.
+pub fn write_to_end(fd: i32, text: &[u8]) -> Output
+    ensures { λ r. ⌜ AllWritten (length (now (text .entry))) r ⌝ }
 {
     let mut done = 0;
     while done < text.len() {
         let put = io::count(write_some(fd, &text[done..]), &text[done..]);
         if put == 0 {
-            return -1;
+            return Output::Unwritable;
         }
         done += put;
     }
-    0
+    Output::Whole(done)
 }

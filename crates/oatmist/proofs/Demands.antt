@@ -23,15 +23,15 @@ use Rattle.answers.specs.FirstRefusal.{Refusal, SheetRefusal, RestateRefusal, R
 use Rattle.answers.proofs.RefusalsDue.{sheet-refuses}
 use Rattle.answers.proofs.FirstRefusal.{ends-refuse, process-refuses, figure-refuses, stuck-refuses, restate-refuses, report-refuses, work-refuses, winner-refuses, values-same}
 use Rattle.answers.proofs.Laws.{output-laws}
+use Rattle.answers.proofs.OutcomeLaws.{output-kept}
 use Rattle.report.specs.Calls.{ReportAnswer}
-use Rattle.report.proofs.Demands.{refused-left}
 use Rattle.answers.specs.declared.EndSets.{EndSets}
 use Rattle.desk.specs.Calls.{EndSetsAnswer, endArrayBy, ProcessAnswer, RestateAnswer, FigureAnswer, StuckAnswer}
 use Rattle.comparing.specs.Calls.{SameWorkAnswer, WinnerAnswer}
-use Rattle.oatmist.specs.Convention.{withValues, Packable, CAnswer}
+use Rattle.oatmist.specs.Convention.{withValues, FitsWord, CAnswer}
 use Rattle.oatmist.specs.Calls.{EndSetsForC}
 use Rattle.oatmist.specs.Demands.{ReadsAs, InFront, ToldToC, Number, DemandsForC}
-use Rattle.oatmist.proofs.Packing.{packable-read, packable-process, packable-restate, packable-figure, packable-stuck, packable-report, packable-work, packable-winner}
+use Rattle.oatmist.proofs.FitsWord.{fits-read, fits-process, fits-restate, fits-figure, fits-stuck, fits-report, fits-work, fits-winner}
 
 -- ---- the values in front
 
@@ -68,11 +68,11 @@ in-front xs old new e = record { size = ap length e ∙ whole; front = λ j h l.
 -- ---- any call
 
 module _ {A : Type 0} (f : A → List ℕ) (P : Refusal) (Values : List ℕ → Type 0) (o : Outcome A) (due : RefusesBy P o) where
-  told-to-c : ((x : A) → o ≡ given x → Values (f x)) → Packable (values f o)
+  told-to-c : ((x : A) → o ≡ given x → Values (f x)) → FitsWord (values f o)
       → (r : ℕ) (old new : List ℕ) → CAnswer (values f o) r old new → ToldToC P Values r old new
   told-to-c told fits r old new = go o refl fits
     where
-      go : (p : Outcome A) → o ≡ p → Packable (values f p) → CAnswer (values f p) r old new → ToldToC P Values r old new
+      go : (p : Outcome A) → o ≡ p → FitsWord (values f p) → CAnswer (values f p) r old new → ToldToC P Values r old new
       go (given x) e fit c =
           record {
             zero-exactly = (λ z k i s h. none k i s h, λ h. c .0);
@@ -121,7 +121,8 @@ where-refused f (given x) r old new c n X h = absurd (n (c .0))
 where-refused f (refused k i s) r old new c n X h = h k i s refl
 
 -- a call that gives one number
-number-to-c : {A : Type 0} (number : A → ℕ) (P : Refusal) (o : Outcome A) → RefusesBy P o → Packable (values (λ (x : A). oneValue (number x)) o)
+number-to-c : {A : Type 0} (number : A → ℕ) (P : Refusal) (o : Outcome A) → RefusesBy P o
+    → FitsWord (values (λ (x : A). oneValue (number x)) o)
     → (Q : Answer → Type 0) → ((a : Answer) → outcomeOf a ≡ values (λ (x : A). oneValue (number x)) o → Q a)
     → (r : ℕ) (old new : List ℕ) → CAnswer (values (λ (x : A). oneValue (number x)) o) r old new → ToldToC P (Number Q) r old new
 number-to-c {A} number P o due fits Q told =
@@ -129,10 +130,10 @@ number-to-c {A} number P o due fits Q told =
     (λ x e. (number x, told (Answer.Given (number x)) (ap (values (λ (y : A). oneValue (number y))) (sym e)), refl)) fits
 
 -- a call that gives a list
-list-to-c : (P : Refusal) (Values : List ℕ → Type 0) (o : Outcome (List ℕ)) → RefusesBy P o → Packable o
+list-to-c : (P : Refusal) (Values : List ℕ → Type 0) (o : Outcome (List ℕ)) → RefusesBy P o → FitsWord o
     → ((xs : List ℕ) → o ≡ given xs → Values xs) → (r : ℕ) (old new : List ℕ) → CAnswer o r old new → ToldToC P Values r old new
 list-to-c P Values o due fits told r old new c =
-    told-to-c (λ x. x) P Values o due told (subst Packable (sym (values-same o)) fits) r old new
+    told-to-c (λ x. x) P Values o due told (subst FitsWord (sym (values-same o)) fits) r old new
     (subst (λ (p : Outcome (List ℕ)). CAnswer p r old new) (sym (values-same o)) c)
 
 -- ---- each call
@@ -152,7 +153,7 @@ ends-to-c : (b old new : List ℕ) (r : ℕ) → EndSetsForC b r old new
     → ToldToC (SheetRefusal b) (λ xs. (e : EndSets) × EndSetsAnswer b e × (xs ≡ e .sets)) r old new
 unfolding endsOutcome
 ends-to-c b old new r c =
-    list-to-c (SheetRefusal b) _ (endsOutcome b) (ends-refuse b) (packable-read b (endArray b)) told r old new c
+    list-to-c (SheetRefusal b) _ (endsOutcome b) (ends-refuse b) (fits-read b (endArray b)) told r old new c
   where
     told : (xs : List ℕ) → after (verdict b) (given (endArray b)) ≡ given xs → (e : EndSets) × EndSetsAnswer b e × (xs ≡ e .sets)
     told xs q =
@@ -165,33 +166,33 @@ pub demands-for-c : DemandsForC
 demands-for-c =
     record {
       check = λ b old new r.
-          list-to-c (SheetRefusal b) _ (readOutcome b (verdict b)) (sheet-refuses b (sizesOf b)) (packable-read b (sizesOf b))
+          list-to-c (SheetRefusal b) _ (readOutcome b (verdict b)) (sheet-refuses b (sizesOf b)) (fits-read b (sizesOf b))
           (λ xs e. after-given (verdict b) (sizesOf b) xs e .1) r old new;
       end-sets = ends-to-c;
       process = λ b old new r.
-          number-to-c offending (SheetRefusal b) (processCheck b) (process-refuses b) (packable-process b) (ProcessAnswer b) (λ a e. e) r old new;
+          number-to-c offending (SheetRefusal b) (processCheck b) (process-refuses b) (fits-process b) (ProcessAnswer b) (λ a e. e) r old new;
       figure = λ b old new r.
-          number-to-c (λ x. x) (SheetRefusal b) (figureOutcome b) (figure-refuses b) (packable-figure b) (FigureAnswer b) (λ a e. e) r old new;
+          number-to-c (λ x. x) (SheetRefusal b) (figureOutcome b) (figure-refuses b) (fits-figure b) (FigureAnswer b) (λ a e. e) r old new;
       stuck = λ b old new r.
-          number-to-c bit (SheetRefusal b) (stuckOutcome b) (stuck-refuses b) (packable-stuck b) (StuckAnswer b) (λ a e. e) r old new;
+          number-to-c bit (SheetRefusal b) (stuckOutcome b) (stuck-refuses b) (fits-stuck b) (StuckAnswer b) (λ a e. e) r old new;
       same-work = λ b c old new r.
-          number-to-c bit (TwoSheetRefusal b c) (sameWork b c) (work-refuses b c) (packable-work b c) (SameWorkAnswer b c) (λ a e. e) r old new;
+          number-to-c bit (TwoSheetRefusal b c) (sameWork b c) (work-refuses b c) (fits-work b c) (SameWorkAnswer b c) (λ a e. e) r old new;
       winner = λ b c old new r.
-          number-to-c (λ x. x) (TwoSheetRefusal b c) (winner b c) (winner-refuses b c) (packable-winner b c) (WinnerAnswer b c) (λ a e. e) r old new;
+          number-to-c (λ x. x) (TwoSheetRefusal b c) (winner b c) (winner-refuses b c) (fits-winner b c) (WinnerAnswer b c) (λ a e. e) r old new;
       restate = λ b out left old new r c.
           number-to-c (λ x. x) (RestateRefusal b (length out)) (restating b (length out)) (restate-refuses b (length out))
-          (packable-restate b (length out)) (λ a. RestateAnswer b out a left) (λ a e. record { answer-told = e; output-left = c .output-left })
+          (fits-restate b (length out)) (λ a. RestateAnswer b out a left) (λ a e. record { answer-told = e; output-left = c .output-left })
           r old new (c .answer-told);
       report = λ b out left old new r c.
           number-to-c (λ x. x) (ReportRefusal b (length out)) (reporting b (length out)) (report-refuses b (length out))
-          (packable-report b (length out)) (λ a. ReportAnswer b out a left) (λ a e. record { answer-told = e; output-left = c .output-left })
+          (fits-report b (length out)) (λ a. ReportAnswer b out a left) (λ a e. record { answer-told = e; output-left = c .output-left })
           r old new (c .answer-told);
       restate-untouched = λ b out left old new r c n.
           where-refused oneValue (restating b (length out)) r old new (c .answer-told) n (left ≡ out)
           (λ k i s e. c .output-left ∙ output-laws .refused-untouched b out k i s e);
       report-untouched = λ b out left old new r c n.
           where-refused oneValue (reporting b (length out)) r old new (c .answer-told) n (left ≡ out)
-          (λ k i s e. c .output-left ∙ refused-left b out k i s e);
+          (λ k i s e. c .output-left ∙ output-kept b out k i s e);
       leaner = λ b c part h. h;
       worked = (λ z. absurd (omega arith), refl, refl, refl);
     }

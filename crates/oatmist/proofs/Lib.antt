@@ -1,3 +1,3 @@
-pub mod Packing
+pub mod FitsWord
 pub mod Demands
 pub mod Printing

@@ -5,10 +5,10 @@ use mathlib.Core.List.{List, _++_}
 use Prim.Native.Nat.{ℕ, _≤_}
 use native.Mathlib.Omega.{arith}
 use lib.ListN.{length, take, drop, length-append}
+use Rattle.sets.proofs.Lists.{over-front}
 use Rattle.answers.specs.declared.Answer.{Answer}
 use Rattle.answers.specs.Outcomes.{given, oneValue, outcomeOf}
 use Rattle.answers.specs.Report.{report, reportRoom}
-use Rattle.answers.proofs.LentOutput.{output-front}
 use Rattle.report.specs.Calls.{ReportAnswer}
 use Rattle.report.proofs.Demands.{report-demand}
 
@@ -25,7 +25,7 @@ module _ {b out after : List ℕ} {r : Answer} (A : ReportAnswer b out r after) 
   pub text-front : (k : ℕ) → r ≡ Answer.Given k → take k after ≡ report b
   text-front k e =
       ap (λ (o : List ℕ). take k o) (written k e .1 ∙ ap (λ (j : ℕ). report b ++ drop j out) (written k e .0))
-      ∙ output-front (report b) out k (size-told k e)
+      ∙ over-front (report b) out k (size-told k e)
 
   pub text-within : (k : ℕ) → r ≡ Answer.Given k → k ≤ length after
   text-within k e =

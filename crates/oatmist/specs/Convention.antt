@@ -11,7 +11,7 @@ use Rattle.answers.specs.Outcomes.{Outcome, given, refused}
 abbrev pub refusalWord : ℕ → ℕ → ℕ → ℕ
 refusalWord k i s = k + 256 * s + 65536 * i
 
--- the values in front of the array, as many as it has room for; its other entries as they were
+-- the values in front of the array, as many as it has room for; its other entries as they were (D1, C1)
 abbrev pub withValues : List ℕ → List ℕ → List ℕ
 withValues xs out = over (take (length out) xs) out
 
@@ -20,7 +20,7 @@ abbrev pub CAnswer : Outcome (List ℕ) → ℕ → List ℕ → List ℕ → Ty
 CAnswer (given xs) r old new = (r ≡ 0) × (new ≡ withValues xs old)
 CAnswer (refused k i s) r old new = (r ≡ refusalWord k i s) × (new ≡ old)
 
--- a refusal whose parts fit into their bits, and whose number is not 0
-abbrev pub Packable : Outcome (List ℕ) → Type 0
-Packable (given xs) = Unit {0}
-Packable (refused k i s) = (1 ≤ k) × (k < 256) × (s < 256) × (i < 2 ^ 40)
+-- a refusal whose parts fit into their bits, and whose number is not 0 (O4, O7)
+abbrev pub FitsWord : Outcome (List ℕ) → Type 0
+FitsWord (given xs) = Unit {0}
+FitsWord (refused k i s) = (1 ≤ k) × (k < 256) × (s < 256) × (i < 2 ^ 40)

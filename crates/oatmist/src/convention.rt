@@ -4,7 +4,7 @@ ghost use Prim.Native.Nat.{min, _<_, _^_};
 ghost use lib.ListN.{set};
 ghost use Rattle.answers.specs.declared.Answer.the-variants.{Accepted};
 ghost use Rattle.answers.specs.Outcomes.{outcomeOf};
-ghost use Rattle.oatmist.specs.Convention.{withValues, refusalWord, Packable, CAnswer};
+ghost use Rattle.oatmist.specs.Convention.{withValues, refusalWord, FitsWord, CAnswer};
 use answers::Answer;
 use answers::Sizes;
 
@@ -60,7 +60,7 @@ fn hand_sizes(sizes: Sizes, out: &mut [u64]) -> u64
 
 // Hands an answer back.
 pub fn hand(told: Answer, out: &mut [u64]) -> u64
-    requires { ⌜ Packable (outcomeOf told) ⌝ }
+    requires { ⌜ FitsWord (outcomeOf told) ⌝ }
     ensures { λ r. ⌜ CAnswer (outcomeOf told) r (now (out .entry)) (now (out .exit)) ⌝ }
 {
     match told {

@@ -32,7 +32,7 @@ pub extern "C" fn oatmist_end_sets(sheet: &[u8], ends: &mut [u64]) -> u64
 {
     let ended = end_sets(sheet);
     let answer = ended.answer;
-    let Answer::Accepted(sizes) = answer else {
+    let Answer::Accepted(_) = answer else {
         return convention::hand(answer, ends);
     };
     let sets = ended.sets;

@@ -1,9 +1,9 @@
 -- R5 to R9: the sections of a sheet whose trailer passed: what a checker answers of a part is what the refusal says of the sheet.
 -- Assumes nothing.
-use mathlib.Core.Path.{_≡_, refl, sym, ap, ap₂, _∙_}
+use mathlib.Core.Path.{_≡_, sym, ap, _∙_}
 use mathlib.Core.Logic.{_⊎_, inl, inr}
-use mathlib.Core.Bool.{Bool, true, false, not, _||_}
-use mathlib.Core.List.{List, [], _∷_, map, List·Memᴰ, List·Memᴰ·head, List·Memᴰ·tail}
+use mathlib.Core.Bool.{Bool, true, false, not}
+use mathlib.Core.List.{List, map}
 use Prim.Native.Nat.{ℕ, _+_, _-_, _*_, _/_, _≤_, _<_}
 use native.Mathlib.Omega.{arith}
 use lib.Dec.{leb, ltb}
@@ -11,25 +11,22 @@ use lib.ListN.{length, getD, take, drop, length-take, length-drop}
 use Rattle.sets.specs.Lists.{anyOf, below}
 use Rattle.sets.specs.Bits.{member}
 use Rattle.sets.proofs.Bools.{true-or-false, leb-false}
-use Rattle.sets.proofs.Lists.{mem-below}
+use Rattle.sets.proofs.Lists.{mem-below, anyOf-same, drop-take}
 use Rattle.systems.specs.Tables.{Transition, Tables}
 use Rattle.systems.specs.Checking.{flat}
-use Rattle.sheet.specs.Bounds.{stepSize, mostSteps, mostInSteps, recordSize}
+use Rattle.sheet.specs.Bounds.{recordSize, stepSize, trailerSize, mostSteps, mostInSteps}
 use Rattle.sheet.specs.Numbers.{number, field, parts}
 use Rattle.sheet.specs.Layout.{componentCount, front, statesOf, fillerOf, initialOf, alphabetOf, transitionBytes, transitionOf, tablesOf, tables, stepCount, steps}
 use Rattle.sheet.specs.Refusals.{recordWrong, recordsWrong, actionUnused, transitionWrong, transitionsWrong, risingBytes, orderWrong, tooManyActions}
 use Rattle.sheet.specs.Sections.{stepsIn, sectionTables, Alphabets}
 use Rattle.sheet.proofs.Sections.{alphabets-made, alphabets-each}
-use Rattle.sheet.proofs.Numbers.{drop-take, field-within, parts-part}
+use Rattle.sheet.proofs.Numbers.{field-within, parts-part}
 use Rattle.answers.specs.declared.Sizes.{Sizes}
+use Rattle.answers.specs.SizesRead.{SizesRead}
+use Rattle.reading.specs.Reading.{upToTrailer}
 use Rattle.reading.specs.records.Alphabets.{unusedIn}
-use Rattle.reading.proofs.Passing.{TrailerRead}
 
 -- ---- two tests that agree
-
-anyOf-same : {A : Type 0} (p q : A → Bool) (l : List A) → ((x : A) → List·Memᴰ x l → p x ≡ q x) → anyOf p l ≡ anyOf q l
-anyOf-same p q [] h = refl
-anyOf-same p q (x ∷ l) h = ap₂ _||_ (h x (List·Memᴰ·head refl)) (anyOf-same p q l (λ y m. h y (List·Memᴰ·tail m)))
 
 same-below : (p q : ℕ → Bool) (n : ℕ) → ((i : ℕ) → i < n → p i ≡ q i) → anyOf p (below n) ≡ anyOf q (below n)
 same-below p q n h = anyOf-same p q (below n) (λ i m. h i (mem-below n i .0 m))
@@ -49,7 +46,7 @@ wrong-same A B t e h = go (true-or-false (leb (A .components) (t .component)))
         let same = h (t .component) (leb-false (A .components) (t .component) .0 w) in
         rw (e, same .0, same .1)
 
--- ---- the sections of a sheet whose trailer passed
+-- ---- the sections of a sheet whose trailer passed (S2, F6)
 
 abbrev recordsPart : List ℕ → Sizes → List ℕ
 recordsPart b z = take (z .t - 0) (drop 0 b)
@@ -58,9 +55,9 @@ abbrev transitionsPart : List ℕ → Sizes → List ℕ
 transitionsPart b z = take (z .s - z .t) (drop (z .t) b)
 
 abbrev stepsPart : List ℕ → Sizes → List ℕ
-stepsPart b z = take (length b - 10 - z .s) (drop (z .s) b)
+stepsPart b z = upToTrailer (z .s) b
 
-module _ {b : List ℕ} {z : Sizes} (r : TrailerRead b z) where
+module _ {b : List ℕ} {z : Sizes} (r : SizesRead b z) where
   pub records-long : recordSize * z .n ≤ length (recordsPart b z)
   records-long = simp length-take (omega arith)
 
@@ -113,7 +110,7 @@ module _ {b : List ℕ} {z : Sizes} (r : TrailerRead b z) where
   steps-part : stepsIn (stepsPart b z) ≡ steps b
   unfolding steps stepCount
   steps-part =
-      let len = length b - 10 - z .s in
+      let len = length b - trailerSize - z .s in
       let size : length (stepsPart b z) ≡ len = simp (length-take, length-drop) (omega arith) in
       ap (λ (k : ℕ). map number (parts 8 (k / 8) (stepsPart b z))) size
       ∙ ap (map number) (parts-part 8 (len / 8) len (z .s) b (omega arith))
@@ -121,13 +118,13 @@ module _ {b : List ℕ} {z : Sizes} (r : TrailerRead b z) where
 
   -- ---- the refusals of the sheet, by what was answered of the parts
 
-  -- 5
+  -- R5
   pub records-told : {x : Bool} → x ≡ anyOf (recordWrong (recordsPart b z) (z .m)) (below (z .n)) → recordsWrong b ≡ x
   unfolding recordsWrong
   records-told e =
       rw (← r .n-read, ← r .m-read) (sym (e ∙ same-below (recordWrong (recordsPart b z) (z .m)) (recordWrong (front b) (z .m)) (z .n) record-same))
 
-  -- 6, of an array with the alphabets
+  -- R6, of an array with the alphabets
   pub actions-told : {l : List ℕ} → Alphabets (tablesOf (recordsPart b z) (z .n) (z .m)) (z .n) l → {x : Bool} → x ≡ unusedIn l (z .n) (z .m) → actionUnused b ≡ x
   unfolding actionUnused tables tablesOf
   actions-told {l} h e =
@@ -138,7 +135,7 @@ module _ {b : List ℕ} {z : Sizes} (r : TrailerRead b z) where
       (λ a m. ap not
       (same-below (λ j. member (getD l j 0) a) _ (z .n) (λ j k. ap (λ (x : ℕ). member x a) (h .each j k ∙ alphabet-same j k))))))
 
-  -- 7
+  -- R7
   pub transitions-told : {x : Bool}
       → x
       ≡ anyOf (transitionWrong (sectionTables (recordsPart b z) (transitionsPart b z) (z .n) 0))
@@ -153,12 +150,12 @@ module _ {b : List ℕ} {z : Sizes} (r : TrailerRead b z) where
       ∙ anyOf-same (transitionWrong T) (transitionWrong (tables b)) (tables b .transitions)
       (λ t m. wrong-same T (tables b) t (r .n-read) (λ j l. (states-same j l, alphabet-same j l))))
 
-  -- 8
+  -- R8
   pub order-told : {x : Bool} → x ≡ not (risingBytes (parts 4 (length (transitionsPart b z) / 4) (transitionsPart b z))) → orderWrong b ≡ x
   unfolding orderWrong
   order-told e = sym (e ∙ ap (λ (l : List (List ℕ)). not (risingBytes l)) transition-bytes)
 
-  -- 9
+  -- R9
   pub count-told : {x : ℕ} → x ≡ length (flat (stepsIn (stepsPart b z))) → tooManyActions b ≡ ltb mostInSteps x
   unfolding tooManyActions
   count-told e = ap (ltb mostInSteps) (sym (e ∙ ap (λ (l : List ℕ). length (flat l)) steps-part))

@@ -11,10 +11,10 @@ use Rattle.answers.specs.declared.Sizes.{Sizes}
 use Rattle.answers.specs.declared.Answer.the-variants.{Accepted}
 use Rattle.answers.specs.Outcomes.{outcomeOf, readOutcome}
 
--- the trailer of the sheet b passed, and tells the sizes z: none of 1 to 4 holds
+-- the trailer of the sheet b passed, and tells the sizes z (S6): none of R1 to R4 holds
 abbrev pub TrailerPassed : List ℕ → Sizes → Type 0
 TrailerPassed b z = outcomeOf (Accepted z) ≡ readOutcome b (trailerVerdict b accepted)
 
--- the bytes of the sheet b from s up to its trailer
+-- the bytes of the sheet b from s up to its trailer (S2)
 abbrev pub upToTrailer : ℕ → List ℕ → List ℕ
 upToTrailer s b = take (length b - trailerSize - s) (drop s b)

@@ -4,14 +4,14 @@ use mathlib.Core.Path.{_≡_, sym, ap, _∙_}
 use mathlib.Core.List.{List, _++_}
 use Prim.Native.Nat.{ℕ}
 use lib.ListN.{length, drop}
-use Rattle.sets.specs.Lists.{over}
 use Rattle.answers.specs.declared.Answer.{Answer}
-use Rattle.answers.specs.Outcomes.{given, refused, values, oneValue}
+use Rattle.answers.specs.Outcomes.{given, values, oneValue}
 use Rattle.answers.specs.FirstRefusal.{ReportRefusal}
-use Rattle.answers.specs.Report.{report, reporting, reportOutput}
+use Rattle.answers.specs.Report.{report, reporting}
 use Rattle.answers.proofs.Told.{is-given, refused-only, number-only}
 use Rattle.answers.proofs.LentOutput.{fitting-length}
 use Rattle.answers.proofs.FirstRefusal.{report-refuses, number-or}
+use Rattle.answers.proofs.OutcomeLaws.{output-kept, output-over}
 use Rattle.report.specs.Calls.{ReportAnswer}
 use Rattle.report.specs.Demands.{ReportDemand}
 use Rattle.report.proofs.Texts.{room-serves}
@@ -20,19 +20,11 @@ given-size : (b out : List ℕ) (k : ℕ) → reporting b (length out) ≡ given
 unfolding reporting
 given-size b out k e = fitting-length (report b) (length out) k e
 
-given-left : (b out : List ℕ) (k : ℕ) → reporting b (length out) ≡ given k → reportOutput b out ≡ over (report b) out
-unfolding reportOutput
-given-left b out k e = rw e
-
-pub refused-left : (b out : List ℕ) (k i s : ℕ) → reporting b (length out) ≡ refused k i s → reportOutput b out ≡ out
-unfolding reportOutput
-refused-left b out k i s e = rw e
-
 writes : (b out left : List ℕ) (k : ℕ) → ReportAnswer b out (Answer.Given k) left → (k ≡ length (report b)) × (left ≡ report b ++ drop k out)
 writes b out left k c =
     let told = number-only (reporting b (length out)) k (c .answer-told) in
     let size : length (report b) ≡ k = given-size b out k told in
-    (sym size, c .output-left ∙ given-left b out k told ∙ ap (λ (j : ℕ). report b ++ drop j out) size)
+    (sym size, c .output-left ∙ output-over b out k told ∙ ap (λ (j : ℕ). report b ++ drop j out) size)
 
 -- D1, R13, P1 to P5: the length of the text, or 13; what the output is afterwards
 pub report-demand : ReportDemand
@@ -44,5 +36,5 @@ report-demand =
           is-given r (length (report b)) (c .answer-told ∙ ap (values oneValue) (room-serves b out long));
       report-writes = writes;
       refused-untouched = λ b out left k i s c.
-          c .output-left ∙ refused-left b out k i s (refused-only oneValue (reporting b (length out)) k i s (c .answer-told));
+          c .output-left ∙ output-kept b out k i s (refused-only oneValue (reporting b (length out)) k i s (c .answer-told));
     }

@@ -39,7 +39,7 @@ use Rattle.report.specs.text.Texts.{TextAt}
 use Rattle.report.specs.Calls.{refusalLine, ReportAnswer}
 use Rattle.report.proofs.text.Bounds.{line-most, steps-most, ends-most}
 
--- ---- the lines of an accepted sheet
+-- ---- the lines of an accepted sheet (P3 to P5)
 
 texts-same : (f g : ℕ → List ℕ) (js : List ℕ) → ((j : ℕ) → List·Memᴰ j js → f j ≡ g j) → appendAll (map f js) ≡ appendAll (map g js)
 texts-same f g [] e = refl
@@ -55,21 +55,21 @@ module _ (b : List ℕ) (z : Sizes) (r : AcceptedSheet b z) (sets : List ℕ) (e
   ends-told =
       texts-same (λ j. line endWord (j ∷ members (getD sets j 0))) (λ j. line endWord (j ∷ members (endSet b j))) (below (z .n))
       (λ j i. ap (λ (x : ℕ). line endWord (j ∷ members x)) (set-at b z r sets ended j (mem-below (z .n) j .0 i)))
-      ∙ ap (λ (k : ℕ). endTexts (endSet b) (below k)) (r .n-read)
+      ∙ ap (λ (k : ℕ). endTexts (endSet b) (below k)) (r .sizes-read .n-read)
 
   pub accepted-text : (numbers packed : List ℕ) (count : ℕ) → line acceptedWord numbers ≡ summaryLine b → PackedSteps b packed count
       → line acceptedWord numbers ++ (stepTexts (take count packed) ++ endTexts (λ j. getD sets j 0) (below (z .n))) ≡ report b
   accepted-text numbers packed count q p =
       ap₂ _++_ q (ap₂ _++_ (steps-told b packed count p) ends-told) ∙ sym (report-accepted b (r .sheet-accepted))
 
--- ---- the line of a refusal
+-- ---- the line of a refusal (P2)
 
 pub refusal-text : (b : List ℕ) (a : Answer) → NotAccepted a → outcomeOf a ≡ readOutcome b (verdict b) → refusalLine a ≡ report b
 refusal-text b a h e =
     let s = stopped-by a h (verdict b) (componentCount b) (actionCount b) (transitionsAt b) (stepsAt b) e in
     ap refusalLine (s .answer-told) ∙ sym (report-refused b (s .number) (s .index) (s .verdict-told))
 
--- ---- the length of a report
+-- ---- the length of a report: what room it needs (R13)
 
 bit-small : (t : Bool) → bit t < 10 ^ 20
 bit-small true = omega arith
@@ -148,6 +148,7 @@ refused-index b k i e = go (verdict-first b) e
         omega arith
     go (all-passed passed faultless) q = let z : _≡_ {A = ℕ} 0 1 = cc in absurd (omega arith)
 
+-- every report fits 16,384 bytes (R13)
 pub report-short : (b : List ℕ) → length (report b) ≤ reportRoom
 report-short b = go (verdict b) refl
   where
@@ -174,21 +175,23 @@ pub refusal-room : (k i size : ℕ) → k < 18446744073709551616 → i < 1844674
     → 0 + length (line refusedWord (k ∷ i ∷ [])) ≤ size
 refusal-room k i size few few′ h = let m = line-most refusedWord (k ∷ i ∷ []) (omega arith, (omega arith, tt)) in omega arith
 
--- ---- what is printed
+-- ---- what is handed over: the text, or 13 (R13)
 
+-- R13: 13 where the output is too short, and the output as it came (O5)
 pub printed-short : (b out : List ℕ) → length out < length (report b) → ReportAnswer b out (Answer.Refused 13 0 0) out
 unfolding reporting reportOutput
 printed-short b out h =
     let e = fitting-short (report b) (length out) h in
     record { answer-told = ap (values oneValue) (sym e); output-left = ap (λ (o : Outcome ℕ). outputBy o (report b) out) (sym e) }
 
+-- R13: else the length of the text, which stands in the output
 pub printed-long : (b out : List ℕ) → length (report b) ≤ length out → ReportAnswer b out (Answer.Given (length (report b))) (over (report b) out)
 unfolding reporting reportOutput
 printed-long b out h =
     let e = fitting-long (report b) (length out) h in
     record { answer-told = ap (values oneValue) (sym e); output-left = ap (λ (o : Outcome ℕ). outputBy o (report b) out) (sym e) }
 
--- an output of 16,384 bytes always serves
+-- an output of 16,384 bytes always serves (R13)
 pub room-serves : (b out : List ℕ) → reportRoom ≤ length out → reporting b (length out) ≡ given (length (report b))
 unfolding reporting
 room-serves b out h = let s = report-short b in fitting-long (report b) (length out) (omega arith)

@@ -10,6 +10,7 @@ use Rattle.answers.specs.FirstRefusal.{ReportRefusal, NumberOr}
 use Rattle.answers.specs.Report.{report, reportRoom}
 use Rattle.report.specs.Calls.{ReportAnswer}
 
+-- D1, of the report: the length of its text or 13 (R13), and every byte of the output afterwards (O5)
 pub record ReportDemand : Type 0 where
   -- the length of the text, or 13
   pub report-answers : (b out left : List ℕ) (r : Answer) → ReportAnswer b out r left → NumberOr (ReportRefusal b (length out)) r

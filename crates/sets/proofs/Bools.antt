@@ -1,4 +1,4 @@
--- What a Bool that is true, or false, says of its parts; and of the numbers that a test compares.
+-- G4: what a Bool that is true, or false, says of its parts; and of the numbers that a test compares.
 -- Each law is an equivalence: `.0` takes a result apart, `.1` makes it.
 -- Assumes nothing.
 use mathlib.Core.Path.{_≡_, refl, sym, _∙_}
@@ -34,7 +34,11 @@ pub not-false : (b : Bool) → (not b ≡ false) ↔ (b ≡ true)
 not-false true = (λ e. refl, λ e. refl)
 not-false false = (sym, sym)
 
--- "not true" said by a refutation
+-- "not false", and "not true", said by a refutation
+pub true-iff : (b : Bool) → (b ≡ true) ↔ (¬ (b ≡ false))
+true-iff true = (λ e. true≢false, λ n. refl)
+true-iff false = (λ e f. false≢true e, λ n. absurd (n refl))
+
 pub false-iff : (b : Bool) → (b ≡ false) ↔ (¬ (b ≡ true))
 false-iff true = (λ e t. true≢false e, λ n. absurd (n refl))
 false-iff false = (λ e. false≢true, λ n. refl)
@@ -84,3 +88,26 @@ eqb-false m n = (Tests.eqb-false m n, Tests.ne-eqb m n)
 
 pub eqb-self : (n : ℕ) → eqb n n ≡ true
 eqb-self n = Tests.eq-eqb n n refl
+
+pub equal-or-not : (m n : ℕ) → (m ≡ n) ⊎ (m ≢ n)
+equal-or-not m n = elim (true-or-false (eqb m n)) [ inl e ↦ inl (eqb-true m n .0 e) | inr e ↦ inr (eqb-false m n .0 e) ]
+
+-- two numbers are equal, or another test passes
+pub equal-or : (a b : ℕ) (s : Bool) (S : Type 0) → ((s ≡ true) ↔ S) → ((eqb a b || s) ≡ true) ↔ ((a ≡ b) ⊎ S)
+equal-or a b s S exact = (λ h. split (or-true (eqb a b) s .0 h), join)
+  where
+    split : (eqb a b ≡ true) ⊎ (s ≡ true) → (a ≡ b) ⊎ S
+    split (inl e) = inl (eqb-true a b .0 e)
+    split (inr e) = inr (exact .0 e)
+
+    join : (a ≡ b) ⊎ S → (eqb a b || s) ≡ true
+    join (inl e) = or-true (eqb a b) s .1 (inl (eqb-true a b .1 e))
+    join (inr x) = or-true (eqb a b) s .1 (inr (exact .1 x))
+
+-- the test of a loop that has two bounds
+pub both-below : (i m j n : ℕ) → (ltb i m && ltb j n) ≡ true → (i < m) × (j < n)
+both-below i m j n e = let b = and-true (ltb i m) (ltb j n) .0 e in (ltb-true i m .0 (b .0), ltb-true j n .0 (b .1))
+
+pub one-past : (i m j n : ℕ) → (ltb i m && ltb j n) ≡ false → (m ≤ i) ⊎ (n ≤ j)
+one-past i m j n e =
+    elim (and-false (ltb i m) (ltb j n) .0 e) [ inl a ↦ inl (ltb-false i m .0 a) | inr b ↦ inr (ltb-false j n .0 b) ]

@@ -1,15 +1,19 @@
--- What the tests over a list say of its elements, what the lists of this crate have for elements,
--- and that a rising list is given by its elements.
+-- G4: what the tests over a list say of its elements, what the lists of this crate have for elements,
+-- and that a rising list is given by its elements. And what the parts of a list are, and a list written over another.
 -- Assumes nothing.
 use mathlib.Core.Path.{_≡_, refl, sym, ap, ap₂, _∙_, subst}
-use mathlib.Core.Bool.{Bool, true, false, _&&_, _||_, false≢true, and-assoc, or-assoc}
-use mathlib.Core.Logic.{_↔_, _⊎_, inl, inr}
-use mathlib.Core.List.{List, [], _∷_, _++_, append-assoc, List·Memᴰ, List·Memᴰ·head, List·Memᴰ·tail, List·Memᴰ·not-nil, List·Memᴰ·cases-cons, List·Memᴰ·append-cases, Memᴰ·append-left, Memᴰ·append-right}
-use Prim.Native.Nat.{ℕ, zero, suc, _+_, _≤_, _<_, zero-le}
-use native.Mathlib.Nat.{lt-irrefl, le-antisymm, eq-or-lt-of-le}
+use mathlib.Core.Bool.{Bool, true, false, _||_, false≢true, or-assoc}
+use mathlib.Core.Logic.{_↔_, _⊎_, inl, inr, ⊎-elim}
+use mathlib.Core.List.{List, [], _∷_, _++_, map, append-assoc, List·Memᴰ, List·Memᴰ·head, List·Memᴰ·tail, List·Memᴰ·not-nil, List·Memᴰ·cases-cons, List·Memᴰ·append-cases, Memᴰ·append-left, Memᴰ·append-right}
+use Prim.Native.Nat.{ℕ, zero, suc, _+_, _-_, _≤_, _<_, zero-le}
+use native.Mathlib.Nat.{lt-irrefl, le-antisymm, eq-or-lt-of-le, zero-add, suc-add, add-sub-of-le}
+use native.Mathlib.Numerals.{add-one}
+use native.Mathlib.Decide.{decLt}
 use native.Mathlib.Omega.{arith}
-use Rattle.sets.specs.Lists.{anyOf, allOf, appendAll, Distinct, upward, below, RisingAbove, Rising}
-use Rattle.sets.proofs.Bools.{not-both, false-iff, and-true, or-true, or-left-comm}
+use lib.ListN.{length, take, drop, getD, drop-of-length-le}
+use lib.Seq.{take-nil, take-append-seam, drop-append-seam, drop-cons, getD-take, length-take-le}
+use Rattle.sets.specs.Lists.{anyOf, allOf, appendAll, over, Distinct, upward, below, RisingAbove, Rising}
+use Rattle.sets.proofs.Bools.{not-both, iff-bool, false-iff, and-true, or-true, or-left-comm}
 
 module _ {ℓ} {A : Type ℓ} where
   -- ---- some
@@ -45,6 +49,11 @@ module _ {ℓ} {A : Type ℓ} where
       cross true b c d = refl
       cross false b c d = or-left-comm b c d
 
+  -- two tests that agree on the elements
+  pub anyOf-same : (p q : A → Bool) (l : List A) → ((x : A) → List·Memᴰ x l → p x ≡ q x) → anyOf p l ≡ anyOf q l
+  anyOf-same p q [] h = refl
+  anyOf-same p q (x ∷ l) h = ap₂ _||_ (h x (List·Memᴰ·head refl)) (anyOf-same p q l (λ y m. h y (List·Memᴰ·tail m)))
+
   -- ---- every
 
   pub allOf-intro : (p : A → Bool) (l : List A) → ((x : A) → List·Memᴰ x l → p x ≡ true) → allOf p l ≡ true
@@ -54,10 +63,6 @@ module _ {ℓ} {A : Type ℓ} where
   pub allOf-elim : (p : A → Bool) (l : List A) → allOf p l ≡ true → (x : A) → List·Memᴰ x l → p x ≡ true
   allOf-elim p (y ∷ l) h x (List·Memᴰ·head e) = ap p e ∙ and-true (p y) (allOf p l) .0 h .0
   allOf-elim p (y ∷ l) h x (List·Memᴰ·tail m) = allOf-elim p l (and-true (p y) (allOf p l) .0 h .1) x m
-
-  pub allOf-append : (p : A → Bool) (k l : List A) → allOf p (k ++ l) ≡ (allOf p k && allOf p l)
-  allOf-append p [] l = refl
-  allOf-append p (x ∷ k) l = ap (λ (b : Bool). p x && b) (allOf-append p k l) ∙ sym (and-assoc (p x) (allOf p k) (allOf p l))
 
   -- ---- concat
 
@@ -80,6 +85,47 @@ module _ {ℓ} {A : Type ℓ} where
 
   pub mem-appendAll : (ls : List (List A)) {x : A} → List·Memᴰ x (appendAll ls) ↔ ((l : List A) × List·Memᴰ l ls × List·Memᴰ x l)
   mem-appendAll ls = (from-appendAll ls, λ h. into-appendAll ls (h .1) (h .2))
+
+  -- ---- elements by index, and a function that changes none
+
+  pub getD-mem : (l : List A) (i : ℕ) (d : A) → i < length l → List·Memᴰ (getD l i d) l
+  getD-mem [] i d h = absurd (omega arith)
+  getD-mem (x ∷ l) zero d h = List·Memᴰ·head refl
+  getD-mem (x ∷ l) (suc i) d h = List·Memᴰ·tail (getD-mem l i d (omega arith))
+
+  pub map-same : (f : A → A) (l : List A) → ((x : A) → List·Memᴰ x l → f x ≡ x) → map f l ≡ l
+  map-same f [] h = refl
+  map-same f (x ∷ l) h = ap₂ (λ (y : A) (r : List A). y ∷ r) (h x (List·Memᴰ·head refl)) (map-same f l (λ y m. h y (List·Memᴰ·tail m)))
+
+  -- ---- a part of a list, and a list written over the front of another
+
+  drop-take-add : (n m : ℕ) (l : List A) → drop n (take (n + m) l) ≡ take m (drop n l)
+  drop-take-add zero m l = ap (λ (j : ℕ). take j l) (zero-add m)
+  drop-take-add (suc n) m [] = ap (drop (suc n)) (take-nil (suc n + m)) ∙ sym (take-nil m)
+  drop-take-add (suc n) m (x ∷ l) = ap (λ (j : ℕ). drop (suc n) (take j (x ∷ l))) (suc-add n m) ∙ drop-take-add n m l
+
+  pub drop-take : (n k : ℕ) (l : List A) → n ≤ k → drop n (take k l) ≡ take (k - n) (drop n l)
+  drop-take n k l h = ap (λ (j : ℕ). drop n (take j l)) (sym (add-sub-of-le h)) ∙ drop-take-add n (k - n) l
+
+  pub over-front : (xs ys : List A) (k : ℕ) → length xs ≡ k → take k (over xs ys) ≡ xs
+  over-front xs ys k e = ap (λ (j : ℕ). take j (over xs ys)) (sym e) ∙ take-append-seam xs (drop (length xs) ys)
+
+  pub over-behind : (xs ys : List A) (k : ℕ) → length xs ≡ k → drop k (over xs ys) ≡ drop k ys
+  over-behind xs ys k e =
+      ap (λ (j : ℕ). drop j (over xs ys)) (sym e) ∙ drop-append-seam xs (drop (length xs) ys) ∙ ap (λ (j : ℕ). drop j ys) e
+
+-- what is left of a list from an index on
+pub drop-next : (xs : List ℕ) (i : ℕ) → i < length xs → drop i xs ≡ getD xs i 0 ∷ drop (i + 1) xs
+drop-next xs i h = drop-cons xs i 0 h ∙ ap (λ (k : ℕ). getD xs i 0 ∷ drop k xs) (sym (add-one i))
+
+pub taken-next : (xs : List ℕ) (count i : ℕ) → i < count → count ≤ length xs
+    → drop i (take count xs) ≡ getD xs i 0 ∷ drop (i + 1) (take count xs)
+taken-next xs count i h few =
+    let n = length-take-le count xs few in
+    drop-next (take count xs) i (omega arith) ∙ ap (λ (v : ℕ). v ∷ drop (i + 1) (take count xs)) (getD-take count xs i 0 h)
+
+pub taken-end : (xs : List ℕ) (count i : ℕ) → count ≤ i → count ≤ length xs → drop i (take count xs) ≡ []
+taken-end xs count i h few = let n = length-take-le count xs few in drop-of-length-le (take count xs) {i = i} (omega arith)
 
 -- ---- the numbers from i on, and those below n
 
@@ -107,6 +153,68 @@ mem-upward i k j = (from-upward i k j, λ h. into-upward i k j (h .0) (h .1))
 pub mem-below : (n i : ℕ) → List·Memᴰ i (below n) ↔ (i < n)
 unfolding below
 mem-below n i = (λ m. let h = mem-upward 0 n i .0 m in omega arith, λ h. mem-upward 0 n i .1 (zero-le, omega arith))
+
+-- what is left of the numbers below n from j on
+pub below-all : (n : ℕ) → below n ≡ upward 0 (n - 0)
+unfolding below
+below-all n = let e : n ≡ n - 0 = omega arith in ap (upward 0) e
+
+pub upward-next : (n j : ℕ) → j < n → upward j (n - j) ≡ j ∷ upward (j + 1) (n - (j + 1))
+unfolding upward
+upward-next n j h =
+    let e : n - j ≡ suc (n - (j + 1)) = omega arith in
+    ap (upward j) e ∙ ap (λ (i : ℕ). j ∷ upward i (n - (j + 1))) (sym (add-one j))
+
+pub upward-end : (n j : ℕ) → n ≤ j → upward j (n - j) ≡ []
+unfolding upward
+upward-end n j h = let e : n - j ≡ 0 = omega arith in ap (upward j) e
+
+-- ---- a search over the numbers below n: what it has found, what it has passed, and what one number more adds
+
+pub found-below : (p : ℕ → Bool) (n i : ℕ) → i < n → p i ≡ true → true ≡ anyOf p (below n)
+found-below p n i l h = sym (anyOf-intro p (below n) (mem-below n i .1 l) h)
+
+pub none-found : (p : ℕ → Bool) (n i : ℕ) → n ≤ i → ((k : ℕ) → k < i → p k ≡ false) → false ≡ anyOf p (below n)
+none-found p n i l h = sym (none-false p (below n) (λ k m. let b = mem-below n k .0 m in h k (omega arith)))
+
+pub anyOf-below-zero : (p : ℕ → Bool) → anyOf p (below 0) ≡ false
+unfolding below upward
+anyOf-below-zero p = refl
+
+pub anyOf-below-more : (p : ℕ → Bool) (n : ℕ) → anyOf p (below (n + 1)) ≡ (anyOf p (below n) || p n)
+anyOf-below-more p n = iff-bool (anyOf p (below (n + 1))) (anyOf p (below n) || p n) (to, from)
+  where
+    split : (i : ℕ) → p i ≡ true → (i ≡ n) ⊎ (i < n) → (anyOf p (below n) ≡ true) ⊎ (p n ≡ true)
+    split i h (inl e) = inr (ap p (sym e) ∙ h)
+    split i h (inr l) = inl (anyOf-intro p (below n) (mem-below n i .1 l) h)
+
+    to : anyOf p (below (n + 1)) ≡ true → (anyOf p (below n) || p n) ≡ true
+    to h =
+        let r = anyOf-elim p (below (n + 1)) h in
+        let l = mem-below (n + 1) (r .0) .0 (r .1) in
+        or-true (anyOf p (below n)) (p n) .1 (split (r .0) (r .2) (eq-or-lt-of-le (omega arith)))
+
+    from : (anyOf p (below n) || p n) ≡ true → anyOf p (below (n + 1)) ≡ true
+    from h =
+        ⊎-elim
+        (λ e. let r = anyOf-elim p (below n) e in
+        let l = mem-below n (r .0) .0 (r .1) in
+        anyOf-intro p (below (n + 1)) (mem-below (n + 1) (r .0) .1 (omega arith)) (r .2))
+        (λ e. anyOf-intro p (below (n + 1)) (mem-below (n + 1) n .1 (omega arith)) e)
+        (or-true (anyOf p (below n)) (p n) .0 h)
+
+-- ---- what holds of some value for each number below n holds of the values of a function
+
+pub chosen : {A : Type 0} (x : A) (B : ℕ → A → Type 0) (n : ℕ) → ((j : ℕ) → j < n → (y : A) × B j y)
+    → (f : ℕ → A) × ((j : ℕ) → j < n → B j (f j))
+chosen {A} x B n h = (λ j. value j .0, λ j. value j .1)
+  where
+    pick : (j : ℕ) → Dec (j < n) → (y : A) × (j < n → B j y)
+    pick j (yes l) = let r = h j l in (r .0, λ k. r .1)
+    pick j (no l) = (x, λ k. absurd (l k))
+
+    value : (j : ℕ) → (y : A) × (j < n → B j y)
+    value j = pick j (decLt j n)
 
 -- ---- rising lists
 

@@ -1,21 +1,21 @@
--- The lowest element of a set that is not empty, `trailingZeros`, and the set without it, `bitAnd x (x - 1)`.
--- The number of bits is free: only `members-lowest` has 64.
+-- F7: the lowest element of a set that is not empty, `trailingZeros`, and the set without it, `bitAnd x (x - 1)`.
+-- The number of bits is free: only `members-lowest`, and what stands behind it, has 64.
 -- Assumes nothing.
 use mathlib.Core.Path.{_≡_, refl, sym, ap, ap₂, _∙_, subst}
 use mathlib.Core.Bool.{Bool, true, false, _&&_, not}
-use mathlib.Core.Logic.{_≢_, _⊎_, inl, inr}
-use mathlib.Core.List.{List, [], _∷_, List·Memᴰ, List·Memᴰ·head, List·Memᴰ·tail}
+use mathlib.Core.Logic.{_↔_, _≢_, _⊎_, inl, inr}
+use mathlib.Core.List.{List, [], _∷_, List·Memᴰ, List·Memᴰ·head, List·Memᴰ·tail, List·Memᴰ·cases-cons}
 use Prim.Native.Nat.{ℕ, zero, suc, _-_, _/_, _%_, _^_, _≤_, _<_}
 use native.Mathlib.Nat.{pow-suc}
 use native.Mathlib.Omega.{arith}
 use lib.Dec.{eqb, eqb·suc-zero, eqb·suc-suc}
-use lib.Bits.{bitAnd, and-le-r}
+use lib.Bits.{bitOr, bitAnd, and-le-r}
 use lib.Count.{trailingZeros, under}
 use Rattle.sets.specs.Lists.{RisingAbove, Rising}
-use Rattle.sets.specs.Bits.{member, members}
+use Rattle.sets.specs.Bits.{member, members, with, setOf}
 use Rattle.sets.proofs.Bools.{true-or-false, not-both, not-true, and-true, eqb-true, eqb-false}
 use Rattle.sets.proofs.Lists.{rising-same}
-use Rattle.sets.proofs.Members.{member-low, member-half, member-and, members-mem, members-rising}
+use Rattle.sets.proofs.Members.{member-low, member-half, member-and, members-mem, members-rising, setOf-members}
 
 -- ---- by the lowest bit
 
@@ -115,7 +115,7 @@ clear-lt x n = let h = and-le-r x (x - 1) in omega arith
 
 -- ---- the elements, lowest first
 
--- a rising list whose elements are all above i rises above i
+-- a rising list whose elements are all above i rises above i (G4)
 pub rising-above : (i : ℕ) (l : List ℕ) → Rising l → ((j : ℕ) → List·Memᴰ j l → i < j) → RisingAbove i l
 rising-above i [] r h = tt
 rising-above i (x ∷ l) r h = (h x (List·Memᴰ·head refl), r)
@@ -157,3 +157,30 @@ members-lowest x n h = rising-same (members x) (t ∷ members y) (members-rising
     into i (List·Memᴰ·head e) =
         members-mem x i .1 (subst (λ (j : ℕ). j < 64) (sym e) (lowest-lt 64 x n h), ap (member x) e ∙ lowest-member 64 x n h)
     into i (List·Memᴰ·tail m) = let r = members-mem y i .0 m in members-mem x i .1 (r .0, of-y i (r .1) .0)
+
+-- ---- a set whose lowest element is known
+
+-- the first element is one
+pub first-member : (x p : ℕ) (l : List ℕ) → members x ≡ p ∷ l → member x p ≡ true
+first-member x p l e = members-mem x p .0 (subst (λ (k : List ℕ). List·Memᴰ p k) (sym e) (List·Memᴰ·head refl)) .1
+
+-- the elements are the lowest one and those of the rest
+pub lowest-or-rest : (x low rest : ℕ) → members x ≡ low ∷ members rest → (a : ℕ) → a < 64
+    → (member x a ≡ true) ↔ ((a ≡ low) ⊎ (member rest a ≡ true))
+lowest-or-rest x low rest e a h = (
+  λ m. there (List·Memᴰ·cases-cons (rw e at (members-mem x a .1 (h, m)))),
+  λ s. members-mem x a .0 (rw e (back s)) .1,
+)
+  where
+    there : (a ≡ low) ⊎ List·Memᴰ a (members rest) → (a ≡ low) ⊎ (member rest a ≡ true)
+    there (inl q) = inl q
+    there (inr m) = inr (members-mem rest a .0 m .1)
+
+    back : (a ≡ low) ⊎ (member rest a ≡ true) → List·Memᴰ a (low ∷ members rest)
+    back (inl q) = List·Memᴰ·head q
+    back (inr m) = List·Memᴰ·tail (members-mem rest a .1 (h, m))
+
+-- the set is its lowest element and the rest
+pub lowest-split : (x y p : ℕ) → x < 2 ^ 64 → y < x → members x ≡ p ∷ members y → x ≡ bitOr (2 ^ p) y
+lowest-split x y p h l e =
+    sym (setOf-members x h) ∙ ap setOf e ∙ ap (with p) (setOf-members y (omega arith))

@@ -1,8 +1,8 @@
--- Which numbers are elements of the sets that this crate makes of bits, and that a set is given by its elements.
+-- S1: which numbers are elements of the sets that this crate makes of bits, and that a set is given by its elements.
 -- The number of bits is free: only `members`, and what is said of it, has 64.
 -- Assumes nothing.
 use mathlib.Core.Path.{_≡_, refl, sym, ap, _∙_, subst}
-use mathlib.Core.Bool.{Bool, true, false, _&&_, _||_, false≢true}
+use mathlib.Core.Bool.{Bool, true, false, _&&_, _||_, false≢true, or-assoc}
 use mathlib.Core.Logic.{_↔_, _≢_, _⊎_, inl, inr}
 use mathlib.Core.List.{List, [], _∷_, List·Memᴰ, List·Memᴰ·head, List·Memᴰ·tail, List·Memᴰ·not-nil}
 use Prim.Native.Nat.{ℕ, zero, suc, _+_, _*_, _/_, _%_, _^_, _≤_, _<_, zero-le, min, max}
@@ -15,10 +15,10 @@ use lib.Pow.{pow-mono, shr-shr}
 use lib.Bits.{bitOr, bitAnd, or-step, and-step, or-shr, and-shr}
 use lib.Count.{ones, ones-step, ones-ones}
 use lib.ListN.{length}
-use Rattle.sets.specs.Lists.{keep, RisingAbove, Rising}
+use Rattle.sets.specs.Lists.{keep, Distinct, RisingAbove, Rising}
 use Rattle.sets.specs.Bits.{member, membersFrom, members, with, setOf}
 use Rattle.sets.proofs.Bools.{true-or-false, not-both, iff-bool, or-true, eqb-true, eqb-false}
-use Rattle.sets.proofs.Lists.{above-rising, rising-same}
+use Rattle.sets.proofs.Lists.{above-rising, rising-distinct, rising-same}
 
 -- ---- bit by bit: the lowest bit, and the bits of the half
 
@@ -78,6 +78,22 @@ member-one (suc i) (suc j) =
 pub member-with : (i x j : ℕ) → member (with i x) j ≡ (eqb i j || member x j)
 member-with i x j = member-or (2 ^ i) x j ∙ ap (λ (b : Bool). b || member x j) (member-one i j)
 
+-- the same, each as an equivalence
+pub or-member : (x y i : ℕ) → (member (bitOr x y) i ≡ true) ↔ ((member x i ≡ true) ⊎ (member y i ≡ true))
+or-member x y i = (
+  λ h. or-true (member x i) (member y i) .0 (sym (member-or x y i) ∙ h),
+  λ s. member-or x y i ∙ or-true (member x i) (member y i) .1 s,
+)
+
+pub one-member : (p i : ℕ) → (member (2 ^ p) i ≡ true) ↔ (p ≡ i)
+one-member p i = (λ h. eqb-true p i .0 (sym (member-one p i) ∙ h), λ e. member-one p i ∙ eqb-true p i .1 e)
+
+pub with-member : (p x i : ℕ) → (member (with p x) i ≡ true) ↔ ((p ≡ i) ⊎ (member x i ≡ true))
+with-member p x i = (
+  λ h. elim (or-true (eqb p i) (member x i) .0 (sym (member-with p x i) ∙ h)) [ inl e ↦ inl (eqb-true p i .0 e) | inr e ↦ inr e ],
+  λ s. member-with p x i ∙ or-true (eqb p i) (member x i) .1 (elim s [ inl e ↦ inl (eqb-true p i .1 e) | inr e ↦ inr e ]),
+)
+
 -- ---- the order, and equality
 
 -- of a set within another: the lowest bits, and the halves
@@ -98,6 +114,16 @@ subset-le =
 
 pub member-ext : (x y : ℕ) → ((i : ℕ) → member x i ≡ member y i) → x ≡ y
 member-ext x y h = le-antisymm (subset-le x y (λ i e. sym (h i) ∙ e)) (subset-le y x (λ i e. h i ∙ e))
+
+-- of three sets, any two may be joined first
+pub union-assoc : (x y z : ℕ) → bitOr (bitOr x y) z ≡ bitOr x (bitOr y z)
+union-assoc x y z =
+    member-ext (bitOr (bitOr x y) z) (bitOr x (bitOr y z)) (λ i.
+    member-or (bitOr x y) z i
+    ∙ ap (λ (b : Bool). b || member z i) (member-or x y i)
+    ∙ or-assoc (member x i) (member y i) (member z i)
+    ∙ ap (λ (b : Bool). member x i || b) (sym (member-or y z i))
+    ∙ sym (member-or x (bitOr y z) i))
 
 -- a set that is not empty has an element
 pub member-some : (x : ℕ) → x ≢ 0 → (i : ℕ) × (member x i ≡ true)
@@ -194,6 +220,21 @@ members-mem x i =
 pub members-rising : (x : ℕ) → Rising (members x)
 members-rising x = rw members-from (membersFrom-rising 0 64 x)
 
+pub members-distinct : (x : ℕ) → Distinct (members x)
+members-distinct x = rising-distinct (members x) (members-rising x)
+
+keep-few : (c : Bool) (i k : ℕ) (l : List ℕ) → length l ≤ k → length (keep c i l) ≤ suc k
+keep-few true i k l h = omega arith
+keep-few false i k l h = omega arith
+
+membersFrom-few : (i k x : ℕ) → length (membersFrom i k x) ≤ k
+unfolding membersFrom
+membersFrom-few i zero x = omega arith
+membersFrom-few i (suc k) x = keep-few (member x i) i k (membersFrom (suc i) k x) (membersFrom-few (suc i) k x)
+
+pub members-few : (x : ℕ) → length (members x) ≤ 64
+members-few x = rw members-from (membersFrom-few 0 64 x)
+
 pub members-zero : members 0 ≡ []
 unfolding members
 members-zero = refl
@@ -229,7 +270,7 @@ members-setOf l r h =
     rising-same (members (setOf l)) l (members-rising (setOf l)) r
     (λ i. (λ m. setOf-member l i .0 (members-mem (setOf l) i .0 m .1), λ m. members-mem (setOf l) i .1 (h i m, setOf-member l i .1 m)))
 
--- ---- how many elements
+-- ---- how many elements: as many as the number has ones (F7)
 
 keep-length : (b : ℕ) (i : ℕ) (l : List ℕ) → b < 2 → length (keep (eqb b 1) i l) ≡ b + length l
 keep-length zero i l h = sym (zero-add (length l))

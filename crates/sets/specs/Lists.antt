@@ -1,4 +1,4 @@
--- Tests over a list, lists joined or written over the front of another, and lists whose elements rise.
+-- G4: tests over a list, lists joined or written over the front of another, and lists whose elements rise.
 -- Assumes nothing.
 use mathlib.Core.Bool.{Bool, true, false, _&&_, _||_}
 use mathlib.Core.List.{List, [], _∷_, _++_, List·Memᴰ}

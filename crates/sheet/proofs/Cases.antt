@@ -1,7 +1,9 @@
--- The worked sheets come out as their two tables say, by computing.
+-- The worked sheets come out as their two tables say, by computing; large sheets as it is said of every sheet of their size; and the sheets
+-- of a family, up to the longest, are accepted (LargeSheets).
 -- Assumes nothing.
 use mathlib.Core.Path.{_≡_, refl}
 use mathlib.Core.List.{List, _∷_, map, List·Memᴰ, List·Memᴰ·head, List·Memᴰ·tail}
+use native.Mathlib.Omega.{arith}
 use Rattle.sets.specs.Lists.{upward, below}
 use Rattle.sets.specs.Bits.{members, membersFrom}
 use Rattle.systems.specs.Independence.{shares, dependent}
@@ -12,7 +14,8 @@ use Rattle.sheet.specs.Layout.{recordsAt, transitionsAt, stepsAt, compon
 use Rattle.sheet.specs.Refusals.{lengthWrong, markWrong, countsWrong, offsetsWrong, recordWrong, recordsWrong, actionUnused, transitionWrong, transitionsWrong, orderWrong, tooManyActions, refusal}
 use Rattle.sheet.specs.Verdict.{stepsVerdict, verdict}
 use Rattle.sheet.specs.Cases.{Case, holdingOf, oneToNine, refusalCases, ComesOut}
-use Rattle.sheet.specs.LimitCases.{LimitCase, limitCases}
+use Rattle.sheet.specs.LimitCases.{LimitCase, limitCases, LargeSheets}
+use Rattle.sheet.proofs.LargeSheets.{large-length, large-accepted}
 
 -- two lists that two maps give are equal: so are the images of each element
 images : {A B : Type 0} (f g : A → B) (l : List A) → map f l ≡ map g l → (x : A) → List·Memᴰ x l → f x ≡ g x
@@ -36,3 +39,23 @@ cases-hold c m = (
 -- L1 to L7: on both sides of each limit the verdict is the one that is due
 pub limits-hold : (s : LimitCase) → List·Memᴰ s limitCases → verdict (s .given) ≡ s .due
 limits-hold s m = images (λ t. verdict (t .given)) (λ t. t .due) limitCases (all-come-out .2) s m
+
+-- L4, L5, L7: the large sheets are judged as they are to be
+pub large-hold : LargeSheets
+unfolding lengthWrong offsetsWrong
+large-hold =
+    record {
+      longest-passes = λ b h.
+          (rw (h .length-is) refl, rw (h .length-is) (rw (h .records-first) (rw (h .n-is) (rw (h .t-is) (rw (h .s-is) refl)))));
+      longer-refused = λ b h. rw h refl;
+      transitions-pass = λ b h. rw (h .length-is) (rw (h .records-first) (rw (h .n-is) (rw (h .t-is) (rw (h .s-is) refl))));
+      transitions-refused = λ b h. rw (h .length-is) (rw (h .records-first) (rw (h .n-is) (rw (h .t-is) (rw (h .s-is) refl))));
+      steps-pass = λ b h. rw (h .length-is) (rw (h .records-first) (rw (h .n-is) (rw (h .t-is) (rw (h .s-is) refl))));
+      steps-refused = λ b h. rw (h .length-is) (rw (h .records-first) (rw (h .n-is) (rw (h .t-is) (rw (h .s-is) refl))));
+      large-length = large-length;
+      large-accepted = large-accepted;
+      longest-accepted = (
+        large-length 16 2048 1024,
+        large-accepted 16 2048 1024 (omega arith) (omega arith) (omega arith) (omega arith) (omega arith),
+      );
+    }

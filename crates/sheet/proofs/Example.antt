@@ -101,7 +101,7 @@ each-field =
       last-two = refl;
     }
 
--- behind the end every byte counts as 0
+-- Where no bytes are, each of the four bytes of a transition counts as 0. No rule says so: O2 lets us choose, since R4 comes before R7.
 pub nothing-there : transitionOf [] ≡ record { component = 0; source = 0; label = 0; target = 0 }
 nothing-there = refl
 
@@ -153,6 +153,7 @@ pub record WidestRun (T : Tables) (xs : List ℕ) : Type 0 where
   pub at-end : fireAll T (start T) (flat xs) 15 ≡ 0xc000_0000
   pub small-stays : fireAll T (start T) (flat xs) 14 ≡ 0b1
 
+-- E2, E4: the second sheet runs so
 pub widest-run : WidestRun (tables widest) (steps widest)
 unfolding members membersFrom rounds closure start fire tables tablesOf front stepCount steps stepsAt componentCount actionCount statesOf initialOf alphabetOf transitionBytes field
 widest-run = record { at-start = refl; at-end = refl; small-stays = refl }

@@ -1,43 +1,58 @@
--- O1: refusals looked at in a row: they stop at one of them, whatever would come then, or let everything through.
+-- O1: refusals looked at in the printed order: they stop at the first that holds, whatever would come then, or none of them holds and they
+-- let everything through. No other theorem walks the order.
 -- Assumes nothing.
-use mathlib.Core.Path.{_≡_, refl, sym, _∙_}
+use mathlib.Core.Path.{_≡_, refl, sym, ap, _∙_}
 use mathlib.Core.Bool.{Bool, true, false}
 use mathlib.Core.List.{List}
-use Prim.Native.Nat.{ℕ}
+use Prim.Native.Nat.{ℕ, suc, _≤_, _<_}
+use native.Mathlib.Decide.{decLt}
 use native.Mathlib.Omega.{arith}
-use Rattle.sheet.specs.Refusals.{lengthWrong, markWrong, countsWrong, offsetsWrong, recordsWrong, actionUnused, transitionsWrong, orderWrong, tooManyActions}
+use Rattle.sheet.specs.Refusals.{refusal}
 use Rattle.sheet.specs.Verdict.{Verdict, accepted, refused, refuseIf, trailerVerdict, tablesVerdict}
 
-pub data Guard (G : Verdict → Verdict) : Type 0 where
-  stops : (k : ℕ) → ((v : Verdict) → G v ≡ refused k 0) → Guard G
-  lets : ((v : Verdict) → G v ≡ v) → Guard G
+-- no refusal from i on and below j holds
+abbrev pub NoRefusal : List ℕ → ℕ → ℕ → Type 0
+NoRefusal b i j = (l : ℕ) → i ≤ l → l < j → refusal b l ≡ false
 
-guard-if : (w : Bool) (k : ℕ) → Guard (refuseIf w k)
-guard-if true k = stops k (λ v. refl)
-guard-if false k = lets (λ v. refl)
+none-then : (b : List ℕ) (i j k : ℕ) → NoRefusal b i j → NoRefusal b j k → NoRefusal b i k
+none-then b i j k f g l low high = elim (decLt l j) [ yes h ↦ f l low h | no h ↦ g l (omega arith) high ]
+
+-- G looks at the refusals from i on and below j
+pub data Guard (b : List ℕ) (i j : ℕ) (G : Verdict → Verdict) : Type 0 where
+  stops : (k : ℕ) → refusal b k ≡ true → NoRefusal b i k → ((v : Verdict) → G v ≡ refused k 0) → Guard b i j G
+  lets : NoRefusal b i j → ((v : Verdict) → G v ≡ v) → Guard b i j G
+
+guard-if : (b : List ℕ) (k : ℕ) → Guard b k (suc k) (refuseIf (refusal b k) k)
+guard-if b k = go (refusal b k) refl
+  where
+    go : (w : Bool) → refusal b k ≡ w → Guard b k (suc k) (refuseIf w k)
+    go true e = stops k e (λ l low high. absurd (omega arith)) (λ v. refl)
+    go false e = lets (λ l low high. let same : l ≡ k = omega arith in ap (refusal b) same ∙ e) (λ v. refl)
 
 -- one behind another
-guard-then : {F G : Verdict → Verdict} → Guard F → Guard G → Guard (λ v. F (G v))
-guard-then {F} {G} (stops k f) g = stops k (λ v. f (G v))
-guard-then {F} {G} (lets f) (stops k g) = stops k (λ v. f (G v) ∙ g v)
-guard-then {F} {G} (lets f) (lets g) = lets (λ v. f (G v) ∙ g v)
+guard-then : {b : List ℕ} {i j k : ℕ} {F G : Verdict → Verdict} → Guard b i j F → Guard b j k G → Guard b i k (λ v. F (G v))
+guard-then {b} {i} {j} {k} {F} {G} (stops l e n f) g = stops l e n (λ v. f (G v))
+guard-then {b} {i} {j} {k} {F} {G} (lets m f) (stops l e n g) = stops l e (none-then b i j l m n) (λ v. f (G v) ∙ g v)
+guard-then {b} {i} {j} {k} {F} {G} (lets m f) (lets n g) = lets (none-then b i j k m n) (λ v. f (G v) ∙ g v)
 
-pub trailer-guard : (b : List ℕ) → Guard (trailerVerdict b)
-trailer-guard b =
-    guard-then (guard-if (lengthWrong b) 1)
-    (guard-then (guard-if (markWrong b) 2) (guard-then (guard-if (countsWrong b) 3) (guard-if (offsetsWrong b) 4)))
+pub trailer-guard : (b : List ℕ) → Guard b 1 5 (trailerVerdict b)
+unfolding refusal
+trailer-guard b = guard-then (guard-if b 1) (guard-then (guard-if b 2) (guard-then (guard-if b 3) (guard-if b 4)))
 
-pub tables-guard : (b : List ℕ) → Guard (tablesVerdict b)
+pub tables-guard : (b : List ℕ) → Guard b 5 10 (tablesVerdict b)
+unfolding refusal
 tables-guard b =
-    guard-then (guard-if (recordsWrong b) 5)
-    (guard-then (guard-if (actionUnused b) 6)
-    (guard-then (guard-if (transitionsWrong b) 7) (guard-then (guard-if (orderWrong b) 8) (guard-if (tooManyActions b) 9))))
+    guard-then (guard-if b 5) (guard-then (guard-if b 6) (guard-then (guard-if b 7) (guard-then (guard-if b 8) (guard-if b 9))))
+
+pub sheet-guard : (b : List ℕ) → Guard b 1 10 (λ v. trailerVerdict b (tablesVerdict b v))
+sheet-guard b = guard-then (trailer-guard b) (tables-guard b)
 
 -- what was seen with nothing behind the refusals holds with anything behind them
-pub guard-stopped : {G : Verdict → Verdict} → Guard G → (k i : ℕ) → G accepted ≡ refused k i → (v : Verdict) → G v ≡ refused k i
-guard-stopped {G} (stops l g) k i e v = g v ∙ sym (g accepted) ∙ e
-guard-stopped {G} (lets g) k i e v = let f = sym (g accepted) ∙ e in let z : _≡_ {A = ℕ} 0 1 = cc in absurd (omega arith)
+module _ {b : List ℕ} {i j : ℕ} {G : Verdict → Verdict} where
+  pub guard-stopped : Guard b i j G → (k s : ℕ) → G accepted ≡ refused k s → (v : Verdict) → G v ≡ refused k s
+  guard-stopped (stops l h n g) k s e v = g v ∙ sym (g accepted) ∙ e
+  guard-stopped (lets n g) k s e v = let f = sym (g accepted) ∙ e in let z : _≡_ {A = ℕ} 0 1 = cc in absurd (omega arith)
 
-pub guard-passed : {G : Verdict → Verdict} → Guard G → G accepted ≡ accepted → (v : Verdict) → G v ≡ v
-guard-passed {G} (stops l g) e v = let f = sym (g accepted) ∙ e in let z : _≡_ {A = ℕ} 0 1 = cc in absurd (omega arith)
-guard-passed {G} (lets g) e v = g v
+  pub guard-passed : Guard b i j G → G accepted ≡ accepted → NoRefusal b i j × ((v : Verdict) → G v ≡ v)
+  guard-passed (stops l h n g) e = let f = sym (g accepted) ∙ e in let z : _≡_ {A = ℕ} 0 1 = cc in absurd (omega arith)
+  guard-passed (lets n g) e = (n, g)

@@ -1,9 +1,9 @@
 pub mod Example
-pub mod Cases
 pub mod Numbers
 pub mod Sections
 pub mod Limits
-pub mod Verdicts
 pub mod Guards
-pub mod Passing
+pub mod Verdicts
 pub mod RoundTrip
+pub mod LargeSheets
+pub mod Cases

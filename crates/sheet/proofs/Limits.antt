@@ -23,7 +23,7 @@ use Rattle.sheet.specs.Layout.{recordsAt, transitionsAt, stepsAt, compon
 use Rattle.sheet.specs.Limits.{RecordInLimits, Before, shorter, here, later, AscendingFrom, Ascending, InLimits}
 use Rattle.sheet.specs.Refusals.{outside, sameNumbers, lengthWrong, markWrong, countsWrong, offsetsWrong, recordWrong, recordsWrong, actionUnused, transitionWrong, transitionsWrong, lessBytes, risingFrom, risingBytes, orderWrong, tooManyActions, refusal}
 
--- ---- tests that fail, each with what it then says
+-- ---- tests that fail, each with what it then says (R1 to R9)
 
 neither : {p q : Bool} {A B : Type 0} → ((p ≡ false) ↔ A) → ((q ≡ false) ↔ B) → (p || q ≡ false) ↔ (A × B)
 neither {p} {q} f g =
@@ -33,6 +33,7 @@ both : {p q : Bool} {A B : Type 0} → ((p ≡ true) ↔ A) → ((q ≡ true) �
 both {p} {q} f g =
     (λ e. let h = and-true p q .0 e in (f .0 (h .0), g .0 (h .1)), λ h. and-true p q .1 (f .1 (h .0), g .1 (h .1)))
 
+-- a number is not outside of two bounds: R1, R3 and R5 ask this
 pub inside : (low high x : ℕ) → (outside low high x ≡ false) ↔ ((low ≤ x) × (x ≤ high))
 inside low high x = neither (ltb-false x low) (ltb-false high x)
 
@@ -55,6 +56,7 @@ none-below p P right n =
 
 -- ---- bytes
 
+-- the test for equal lists: R2 asks it of the closing mark, R14 of the tables
 pub same-numbers : (k l : List ℕ) → (sameNumbers k l ≡ true) ↔ (k ≡ l)
 same-numbers [] [] = (λ e. refl, λ e. refl)
 same-numbers [] (y ∷ l) = (λ e. absurd (false≢true e), λ e. cc)
@@ -292,7 +294,7 @@ limits-exact b = (to, from)
     from r (suc (suc (suc (suc (suc (suc (suc (suc (suc zero))))))))) = total-right b .1 (r .actions-total)
     from r (suc (suc (suc (suc (suc (suc (suc (suc (suc (suc k)))))))))) = refl
 
--- the tables of a sheet in limits are in order
+-- the tables of a sheet in limits are in order: their records (R5), actions (R6) and transitions (R7)
 pub limits-order : (b : List ℕ) → InLimits b → InOrder (tables b)
 unfolding tables tablesOf
 limits-order b r =

@@ -4,12 +4,12 @@
 use mathlib.Core.Path.{_≡_, refl, sym, ap, ap₂, _∙_, subst}
 use mathlib.Core.List.{List, [], _∷_, _++_, map, map-map, append-assoc, List·Memᴰ, List·Memᴰ·head, List·Memᴰ·tail, Memᴰ·of-map}
 use Prim.Native.Nat.{ℕ, zero, suc, _+_, _-_, _*_, _/_, _%_, _^_, _<_, _≤_}
-use native.Mathlib.Nat.{pow-suc, div-lt-iff-lt-mul, mul-zero, mul-suc, mul-assoc, mul-comm, add-comm, add-zero, zero-add, suc-add, add-sub-of-le}
+use native.Mathlib.Nat.{pow-suc, div-lt-iff-lt-mul, mul-zero, mul-suc, mul-assoc, mul-comm, add-comm, add-zero, zero-add, suc-add}
 use native.Mathlib.Omega.{arith}
-use lib.ListN.{length, take, drop, getD, length-take, length-drop, length-append, length-map, List·getD-map}
+use lib.ListN.{length, take, drop, getD, length-drop, length-append, length-map, List·getD-map}
 use lib.Seq.{getD-drop, take-at, drop-at, take-add, take-take, drop-drop, take-nil, length-take-le}
-use lib.Pow.{pow-add}
 use Rattle.sets.specs.Lists.{appendAll}
+use Rattle.sets.proofs.Lists.{drop-take, map-same}
 use Rattle.sheet.specs.Numbers.{AreBytes, number, bytes, field, parts}
 
 -- ---- lists of bytes
@@ -73,20 +73,6 @@ bytes-number (d ∷ b) h =
     let high : (d + 256 * number b) / 256 ≡ number b = omega arith in
     ap₂ (λ (x : ℕ) (l : List ℕ). x ∷ l) low (ap (bytes (length b)) high ∙ bytes-number b (λ i. h (suc i)))
 
-pub number-lt : (b : List ℕ) → AreBytes b → number b < 256 ^ length b
-number-lt [] h = omega arith
-number-lt (d ∷ b) h =
-    let less : d < 256 = h 0 in
-    let rest = number-lt b (λ i. h (suc i)) in
-    omega (arith, pow-suc 256 (length b))
-
--- k bytes are 8 times as many bits
-pub pow-bytes : (k : ℕ) → 256 ^ k ≡ 2 ^ (8 * k)
-pow-bytes zero = refl
-pow-bytes (suc k) =
-    let more : 8 * suc k ≡ 8 * k + 8 = omega arith in
-    pow-suc 256 k ∙ ap (λ (x : ℕ). x * 256) (pow-bytes k) ∙ sym (pow-add 2 (8 * k) 8) ∙ ap (λ (x : ℕ). 2 ^ x) (sym more)
-
 -- ---- a field: split in two, of one byte, and in a part of the list
 
 number-split : (a c : ℕ) (b : List ℕ) → number (take (a + c) b) ≡ number (take a b) + 256 ^ a * number (take c (drop a b))
@@ -120,14 +106,6 @@ pub number-part : (at size : ℕ) (b : List ℕ) → number (take size (drop at 
 unfolding field
 number-part at size b = refl
 
-drop-take-add : (n m : ℕ) (b : List ℕ) → drop n (take (n + m) b) ≡ take m (drop n b)
-drop-take-add zero m b = ap (λ (j : ℕ). take j b) (zero-add m)
-drop-take-add (suc n) m [] = ap (drop (suc n)) (take-nil (suc n + m)) ∙ sym (take-nil m)
-drop-take-add (suc n) m (d ∷ b) = ap (λ (j : ℕ). drop (suc n) (take j (d ∷ b))) (suc-add n m) ∙ drop-take-add n m b
-
-pub drop-take : (n k : ℕ) (b : List ℕ) → n ≤ k → drop n (take k b) ≡ take (k - n) (drop n b)
-drop-take n k b h = ap (λ (j : ℕ). drop n (take j b)) (sym (add-sub-of-le h)) ∙ drop-take-add n (k - n) b
-
 pub field-within : (at size k : ℕ) (b : List ℕ) → at + size ≤ k → field at size (take k b) ≡ field at size b
 unfolding field
 field-within at size k b h =
@@ -160,10 +138,6 @@ pub part-bytes : (size k : ℕ) (b : List ℕ) → AreBytes b → (p : List ℕ)
 part-bytes size (suc k) b h p (List·Memᴰ·head e) = subst AreBytes (sym e) (bytes-take size b h)
 part-bytes size (suc k) b h p (List·Memᴰ·tail m) = part-bytes size k (drop size b) (bytes-drop size b h) p m
 
-pub part-at-most : (size k : ℕ) (b p : List ℕ) → List·Memᴰ p (parts size k b) → length p ≤ size
-part-at-most size (suc k) b p (List·Memᴰ·head e) = rw (e, length-take) (omega arith)
-part-at-most size (suc k) b p (List·Memᴰ·tail m) = part-at-most size k (drop size b) p m
-
 pub part-length : (size k : ℕ) (b : List ℕ) → size * k ≤ length b → (p : List ℕ) → List·Memᴰ p (parts size k b) → length p ≡ size
 part-length size (suc k) b h p (List·Memᴰ·head e) = ap length e ∙ length-take-le size b (omega (arith, mul-suc size k))
 part-length size (suc k) b h p (List·Memᴰ·tail m) = part-length size k (drop size b) (rw length-drop (omega (arith, mul-suc size k))) p m
@@ -194,10 +168,6 @@ numbers-length size k b = length-map (parts size k b) number ∙ parts-length si
 pub numbers-at : (size k : ℕ) (b : List ℕ) (i : ℕ) → i < k → getD (map number (parts size k b)) i 0 ≡ field (size * i) size b
 numbers-at size k b i h =
     List·getD-map number (parts size k b) i [] ∙ ap number (parts-at size k b i h) ∙ number-part (size * i) size b
-
-map-same {ℓ} : {A : Type ℓ} (f : A → A) (l : List A) → ((x : A) → List·Memᴰ x l → f x ≡ x) → map f l ≡ l
-map-same f [] h = refl
-map-same {A = A} f (x ∷ l) h = ap₂ (λ (y : A) (r : List A). y ∷ r) (h x (List·Memᴰ·head refl)) (map-same f l (λ y m. h y (List·Memᴰ·tail m)))
 
 pub length-numbers : (size : ℕ) (xs : List ℕ) → length (appendAll (map (bytes size) xs)) ≡ size * length xs
 length-numbers size [] = sym (mul-zero size)

@@ -32,7 +32,7 @@ drop-end p t k h =
 
 -- ---- a written sheet, read
 
--- what a written sheet reads back as
+-- what a written sheet reads back as (S2 to S7, N9)
 pub record ReadsBack (before : List ℕ) (n m : ℕ) (xs : List ℕ) : Type 0 where
   pub total : length (sheetOf before n m xs) ≡ length before + 8 * length xs + 10
   pub records-at : recordsAt (sheetOf before n m xs) ≡ 0
@@ -130,6 +130,7 @@ module _ (before : List ℕ) (n m : ℕ) (xs : List ℕ) where
         same-steps = read-steps h small;
       }
 
+  -- each number of a written sheet is a byte (S1)
   pub written-bytes : AreBytes before → n < 256 → m < 256 → AreBytes (sheetOf before n m xs)
   unfolding sheetOf
   written-bytes h c a =
@@ -139,7 +140,7 @@ module _ (before : List ℕ) (n m : ℕ) (xs : List ℕ) where
       each : (l : List ℕ) → List·Memᴰ l (map (bytes 8) xs) → AreBytes l
       each l k = let r = Memᴰ·of-map (bytes 8) xs k in subst AreBytes (r .2) (bytes-are 8 (r .0))
 
--- ---- two written sheets
+-- ---- two written sheets: where their bytes are the same, so are their parts (D3)
 
 pub sheet-equal : (before before' : List ℕ) (n n' m m' : ℕ) (xs xs' : List ℕ)
     → length before < 65536 → n < 256 → ((x : ℕ) → List·Memᴰ x xs → x < 2 ^ 64)
@@ -154,7 +155,7 @@ sheet-equal before before' n n' m m' xs xs' h c small h' c' small' e =
       sym (r .same-steps) ∙ ap steps e ∙ r' .same-steps,
     )
 
--- ---- a sheet, written from what it reads as
+-- ---- a sheet, written from what it reads as (S2 to S7)
 
 -- the bytes of a number that was read, before what stands behind it
 field-cut : (at size at' : ℕ) (b : List ℕ) → AreBytes b → at' ≡ at + size → at' ≤ length b
@@ -192,15 +193,17 @@ pub steps-length : (b : List ℕ) → length (steps b) ≡ stepCount b
 unfolding steps
 steps-length b = length-map (parts 8 (stepCount b) (drop (stepsAt b) b)) number ∙ parts-length 8 (stepCount b) (drop (stepsAt b) b)
 
+-- the bytes before S are S many (S2)
 pub front-length : (b : List ℕ) → InLimits b → length (front b) ≡ stepsAt b
 unfolding front
 front-length b l = let e = l .trailer-last .2 in length-take-le (stepsAt b) b (omega arith)
 
+-- the sections and the trailer together are the whole sheet (S2, S7)
 pub sections-length : (b : List ℕ) → InLimits b → length b ≡ stepsAt b + 8 * stepCount b + 10
 unfolding stepCount
 sections-length b l = let e = l .trailer-last .2 in omega arith
 
--- the three parts of a sheet: the bytes before S, the steps, the trailer
+-- the three parts of a sheet: the bytes before S, the steps, the trailer (S2)
 pub sections-joined : (b : List ℕ) → InLimits b
     → take (stepsAt b) b ++ (take (8 * stepCount b) (drop (stepsAt b) b) ++ drop (length b - 10) b) ≡ b
 sections-joined b l =
@@ -225,7 +228,7 @@ writes-back b h l =
     ∙ trailer-read b h (omega arith) (l .records-first) (l .transitions-next) (l .closed))
     ∙ sections-joined b l
 
--- ---- the step section as a part of the sheet
+-- ---- the step section as a part of the sheet (S5, S7)
 
 pub section-length : (b : List ℕ) → InLimits b → length (take (length b - 10 - stepsAt b) (drop (stepsAt b) b)) ≡ 8 * stepCount b
 section-length b l = let e = sections-length b l in length-take-le (length b - 10 - stepsAt b) (drop (stepsAt b) b) (rw length-drop (omega arith)) ∙ omega arith

@@ -2,12 +2,11 @@
 -- N1: a sheet is accepted exactly when it is in limits and no step has a fault.
 -- Assumes nothing.
 use mathlib.Core.Path.{_≡_, refl, sym, ap, _∙_, subst}
-use mathlib.Core.Logic.{_↔_, _≢_, inl, inr}
-use mathlib.Core.Bool.{Bool, true, false}
+use mathlib.Core.Logic.{_↔_, _≢_}
+use mathlib.Core.Bool.{true, false}
 use mathlib.Core.List.{List}
 use mathlib.Core.Option.{Option, none, some}
 use Prim.Native.Nat.{ℕ, suc, _-_, _≤_, _<_}
-use native.Mathlib.Nat.{eq-or-lt-of-le, le-of-suc-le-suc}
 use native.Mathlib.Decide.{decLt}
 use native.Mathlib.Omega.{arith}
 use lib.ListN.{length, getD}
@@ -19,8 +18,9 @@ use Rattle.systems.proofs.Faults.{first-fault, no-fault}
 use Rattle.sheet.specs.Layout.{tables, steps}
 use Rattle.sheet.specs.Limits.{InLimits}
 use Rattle.sheet.specs.Refusals.{refusal}
-use Rattle.sheet.specs.Verdict.{Verdict, accepted, refused, refuseIf, ofFault, stepsVerdict, verdict, IsVerdict, sheet-refused, step-refused, all-passed, Accepted}
+use Rattle.sheet.specs.Verdict.{Verdict, accepted, refused, ofFault, stepsVerdict, trailerVerdict, tablesVerdict, verdict, IsVerdict, sheet-refused, step-refused, all-passed, Accepted}
 use Rattle.sheet.proofs.Limits.{limits-exact}
+use Rattle.sheet.proofs.Guards.{NoRefusal, Guard, stops, lets, trailer-guard, sheet-guard, guard-passed}
 
 -- the refusals of a step are 10, 11 and 12
 faulty-number : (T : Tables) (H : Held) (x k : ℕ) → faulty T H x k ≡ true → (10 ≤ k) × (k ≤ 12)
@@ -33,14 +33,7 @@ faulty-number T H x k e =
     other : k ≢ 10 → k ≢ 11 → k ≢ 12 → faulty T H x k ≡ false
     other f g h = rw (eqb-false k 10 .1 f, eqb-false k 11 .1 g, eqb-false k 12 .1 h)
 
--- ---- one refusal of 1 to 9 after another
-
--- no refusal below k holds
-abbrev NoRefusalBelow : List ℕ → ℕ → Type 0
-NoRefusalBelow b k = (i : ℕ) → i < k → refusal b i ≡ false
-
-pass : (b : List ℕ) (k : ℕ) → NoRefusalBelow b k → refusal b k ≡ false → NoRefusalBelow b (suc k)
-pass b k before e i l = elim (eq-or-lt-of-le (le-of-suc-le-suc l)) [ inl q ↦ ap (refusal b) q ∙ e | inr h ↦ before i h ]
+-- ---- the numbers of the sheet's refusals
 
 -- there is no refusal 0, and none of the sheet behind 9
 refusal-zero : (b : List ℕ) → refusal b 0 ≡ false
@@ -59,16 +52,18 @@ refusal-number b k e =
     let high : ¬ (9 < k) = λ l. not-both e (refusal-behind b k l) in
     omega arith
 
-all-nine : (b : List ℕ) → NoRefusalBelow b 10 → (k : ℕ) → refusal b k ≡ false
-all-nine b before k = elim (decLt k 10) [ yes l ↦ before k l | no n ↦ refusal-behind b k (omega arith) ]
+-- no refusal below k holds, of 1 to 9 or any other
+none-below : (b : List ℕ) (k : ℕ) → NoRefusal b 1 k → (i : ℕ) → i < k → refusal b i ≡ false
+none-below b k h i l =
+    elim (decLt 0 i) [
+      | yes p ↦ h i p l
+      | no p ↦ let is : i ≡ 0 = omega arith in ap (refusal b) is ∙ refusal-zero b
+    ]
 
--- refusal k comes next: it is the verdict, or the verdict is that of the rest
-try : (b : List ℕ) (k : ℕ) (v : Verdict) → (NoRefusalBelow b (suc k) → IsVerdict b v) → NoRefusalBelow b k → IsVerdict b (refuseIf (refusal b k) k v)
-try b k v rest before = go (refusal b k) refl
-  where
-    go : (r : Bool) → refusal b k ≡ r → IsVerdict b (refuseIf r k v)
-    go true e = sheet-refused k e before
-    go false e = rest (pass b k before e)
+none-at-all : (b : List ℕ) → NoRefusal b 1 10 → (k : ℕ) → refusal b k ≡ false
+none-at-all b h k = elim (decLt k 10) [ yes l ↦ none-below b 10 h k l | no n ↦ refusal-behind b k (omega arith) ]
+
+-- ---- the first that holds
 
 steps-first : (b : List ℕ) → ((k : ℕ) → refusal b k ≡ false) → IsVerdict b (stepsVerdict b)
 unfolding stepsVerdict
@@ -80,19 +75,12 @@ steps-first b before = go (firstFault (tables b) (start (tables b)) 0 (steps b))
 
 -- O1, O2: the verdict is the first refusal in the printed order, or accepted where none holds
 pub verdict-first : (b : List ℕ) → IsVerdict b (verdict b)
-unfolding verdict refusal
-verdict-first b =
-    try b 1 _
-    (try b 2 _
-    (try b 3 _
-    (try b 4 _
-    (try b 5 _
-    (try b 6 _
-    (try b 7 _
-    (try b 8 _
-    (try b 9 _
-    (λ before. steps-first b (all-nine b before))))))))))
-    (λ i l. let is : i ≡ 0 = omega arith in ap (refusal b) is ∙ refusal-zero b)
+unfolding verdict
+verdict-first b = go (sheet-guard b)
+  where
+    go : Guard b 1 10 (λ v. trailerVerdict b (tablesVerdict b v)) → IsVerdict b (verdict b)
+    go (stops k e before h) = subst (IsVerdict b) (sym (h (stepsVerdict b))) (sheet-refused k e (none-below b k before))
+    go (lets before h) = subst (IsVerdict b) (sym (h (stepsVerdict b))) (steps-first b (none-at-all b before))
 
 -- ---- no other verdict
 
@@ -128,6 +116,12 @@ accepted-exact b = (λ e. to (subst (IsVerdict b) e (verdict-first b)), from)
 
     from : InLimits b × (firstFault (tables b) (start (tables b)) 0 (steps b) ≡ none) → Accepted b
     from h = sym (verdict-only b accepted (all-passed (limits-exact b .1 (h .0)) (no-fault (tables b) (start (tables b)) (steps b) .0 (h .1))))
+
+-- R1 to R9: in limits where the trailer passed, and the tables passed
+pub passed-limits : (b : List ℕ) → trailerVerdict b accepted ≡ accepted → tablesVerdict b accepted ≡ accepted → InLimits b
+passed-limits b t e =
+    limits-exact b .0
+    (none-at-all b (guard-passed (sheet-guard b) (guard-passed (trailer-guard b) t .1 (tablesVerdict b accepted) ∙ e) .0))
 
 -- O4: a refusal's number is 1 to 12; its index is 0 up to 9, and from 10 on that of a step
 pub verdict-number : (b : List ℕ) (k i : ℕ) → verdict b ≡ refused k i

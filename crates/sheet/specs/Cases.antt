@@ -10,32 +10,34 @@ use Rattle.sets.specs.Lists.{keep}
 use Rattle.sheet.specs.Refusals.{refusal}
 use Rattle.sheet.specs.Verdict.{Verdict, accepted, refused, verdict}
 
--- a sheet, which of refusals 1 to 9 hold of it, and its verdict
+-- a sheet, which of R1 to R9 hold of it, and its verdict (O1)
 pub record Case : Type 0 where
   pub given : List ℕ
   pub holding : List ℕ
   pub due : Verdict
 
+-- the case with these three (O1)
 abbrev pub case : List ℕ → List ℕ → Verdict → Case
 case b ks v = record { given = b; holding = ks; due = v }
 
--- those of the numbers whose refusal holds of the sheet
+-- those of the numbers whose refusal holds of the sheet (R1 to R9)
 abbrev pub holdingOf : List ℕ → List ℕ → List ℕ
 holdingOf b [] = []
 holdingOf b (k ∷ ks) = keep (refusal b k) k (holdingOf b ks)
 
+-- the numbers of R1 to R9
 abbrev pub oneToNine : List ℕ
 oneToNine = 1 ∷ 2 ∷ 3 ∷ 4 ∷ 5 ∷ 6 ∷ 7 ∷ 8 ∷ 9 ∷ []
 
--- the byte at the offset i becomes x
+-- the byte at the offset i becomes x (G4)
 abbrev pub changed : ℕ → ℕ → List ℕ → List ℕ
 changed i x b = take i b ++ (x ∷ drop (suc i) b)
 
--- more bytes, put in at the offset i
+-- more bytes, put in at the offset i (G4)
 abbrev pub inserted : ℕ → List ℕ → List ℕ → List ℕ
 inserted i xs b = take i b ++ (xs ++ drop i b)
 
--- the sheet that is accepted, 86 bytes; each comment tells the offsets of the lines below it
+-- the sheet that is accepted (N1), 86 bytes; each comment tells the offsets of the lines below it
 abbrev pub good : List ℕ
 good =
     -- at 0, component 0: two states, initial 0, actions 0 and 2
@@ -57,10 +59,11 @@ good =
     ∷ 0 ∷ 0 ∷ 32 ∷ 0 ∷ 52 ∷ 0 ∷ 2 ∷ 3 ∷ 0x46 ∷ 0x53
     ∷ []
 
--- 17 steps of all 64 actions, 1,088 actions in all
+-- 17 steps of all 64 actions, 1,088 actions in all (R9)
 abbrev pub crowded : List ℕ
 crowded = replicate 136 255
 
+-- R1 to R12, O1 to O4: the cases, by the number of the refusal
 abbrev pub refusalCases : List Case
 refusalCases =
     case good [] accepted
@@ -128,6 +131,6 @@ refusalCases =
     ∷ case (changed 52 0b100 (changed 60 0 good)) [] (refused 12 0)
     ∷ []
 
--- the case comes out as the table says
+-- the case comes out as the table says (R1 to R9, O1)
 abbrev pub ComesOut : Case → Type 0
 ComesOut c = (holdingOf (c .given) oneToNine ≡ c .holding) × (verdict (c .given) ≡ c .due)

@@ -22,20 +22,23 @@ pub record RecordInLimits (b : List ℕ) (m j : ℕ) : Type 0 where
   pub some-action : alphabetOf b j ≢ 0
   pub action-below : (a : ℕ) → member (alphabetOf b j) a ≡ true → a < m
 
--- one byte string stands before another: by the first byte in which they differ
+-- one byte string stands before another: by the first byte in which they differ (R8)
 pub data Before : List ℕ → List ℕ → Type 0 where
   shorter : {y : ℕ} {ys : List ℕ} → Before [] (y ∷ ys)
   here : {x y : ℕ} {xs ys : List ℕ} → x < y → Before (x ∷ xs) (y ∷ ys)
   later : {x y : ℕ} {xs ys : List ℕ} → x ≡ y → Before xs ys → Before (x ∷ xs) (y ∷ ys)
 
+-- each byte string stands before the next one, and x before the first (R8)
 abbrev pub AscendingFrom : List ℕ → List (List ℕ) → Type 0
 AscendingFrom x [] = Unit {0}
 AscendingFrom x (y ∷ ys) = Before x y × AscendingFrom y ys
 
+-- each byte string stands before the next one: they are sorted, and no two are equal (R8)
 abbrev pub Ascending : List (List ℕ) → Type 0
 Ascending [] = Unit {0}
 Ascending (x ∷ xs) = AscendingFrom x xs
 
+-- L1 to L7: a sheet within the limits, laid out as S2 and S6 say, and with tables in order
 pub record InLimits (b : List ℕ) : Type 0 where
   -- L7: how long a sheet may be
   pub length-low : shortest ≤ length b

@@ -14,10 +14,11 @@ use Rattle.systems.specs.Checking.{flat}
 use Rattle.sheet.specs.Bounds.{recordSize, transitionSize, stepSize, trailerSize, shortest, longest, mostComponents, mostActions, mostStates, mostTransitions, mostSteps, mostInSteps}
 use Rattle.sheet.specs.Layout.{recordsAt, transitionsAt, stepsAt, componentCount, actionCount, closing, mark, front, statesOf, fillerOf, initialOf, alphabetOf, transitionBytes, tables, steps}
 
+-- x is below the low bound or above the high one (R1, R3 to R5)
 abbrev pub outside : ℕ → ℕ → ℕ → Bool
 outside low high x = ltb x low || ltb high x
 
--- two byte strings are the same
+-- two byte strings are the same (G4)
 abbrev pub sameNumbers : List ℕ → List ℕ → Bool
 sameNumbers [] [] = true
 sameNumbers [] (y ∷ ys) = false
@@ -53,6 +54,7 @@ recordWrong b m j =
     || eqb (initialOf b j) 0 || leb (2 ^ statesOf b j) (initialOf b j)
     || eqb (alphabetOf b j) 0 || leb (2 ^ m) (alphabetOf b j)
 
+-- R5: some record is wrong
 unfoldable pub recordsWrong : List ℕ → Bool
 recordsWrong b = anyOf (recordWrong (front b) (actionCount b)) (below (componentCount b))
 
@@ -60,31 +62,35 @@ recordsWrong b = anyOf (recordWrong (front b) (actionCount b)) (below (component
 unfoldable pub actionUnused : List ℕ → Bool
 actionUnused b = anyOf (λ a. not (anyOf (λ j. member (tables b .alphabet j) a) (below (componentCount b)))) (below (actionCount b))
 
--- R7: a component that is not there; a source or target that is not a state of it; a label that is neither the internal one
--- nor an action of it
+-- R7, of one transition: a component that is not there; a source or target that is not a state of it; a label that is neither the
+-- internal one nor an action of it
 unfoldable pub transitionWrong : Tables → Transition → Bool
 transitionWrong T t =
     leb (T .components) (t .component) || leb (T .states (t .component)) (t .source) || leb (T .states (t .component)) (t .target)
     || not (eqb (t .label) internal || member (T .alphabet (t .component)) (t .label))
 
+-- R7: some transition is wrong
 unfoldable pub transitionsWrong : List ℕ → Bool
 transitionsWrong b = anyOf (transitionWrong (tables b)) (tables b .transitions)
 
--- R8: the transitions are not sorted by their four bytes, or two are equal
+-- one byte string stands before another: by the first byte in which they differ (R8)
 abbrev pub lessBytes : List ℕ → List ℕ → Bool
 lessBytes [] [] = false
 lessBytes [] (y ∷ ys) = true
 lessBytes (x ∷ xs) [] = false
 lessBytes (x ∷ xs) (y ∷ ys) = ltb x y || (eqb x y && lessBytes xs ys)
 
+-- each byte string stands before the next one, and x before the first (R8)
 abbrev pub risingFrom : List ℕ → List (List ℕ) → Bool
 risingFrom x [] = true
 risingFrom x (y ∷ ys) = lessBytes x y && risingFrom y ys
 
+-- each byte string stands before the next one (R8)
 abbrev pub risingBytes : List (List ℕ) → Bool
 risingBytes [] = true
 risingBytes (x ∷ xs) = risingFrom x xs
 
+-- R8: the transitions are not sorted by their four bytes, or two are equal
 unfoldable pub orderWrong : List ℕ → Bool
 orderWrong b = not (risingBytes (transitionBytes (front b) (componentCount b)))
 

@@ -14,7 +14,7 @@ use Rattle.sheet.specs.Layout.{statesOf, initialOf, alphabetOf, transiti
 abbrev pub stepsIn : List ℕ → List ℕ
 stepsIn b = map number (parts stepSize (length b / stepSize) b)
 
--- the tables that stand in a records section and a transition section
+-- the tables that stand in a records section and a transition section (S2 to S4)
 abbrev pub sectionTables : List ℕ → List ℕ → ℕ → ℕ → Tables
 sectionTables records section n m =
     record {
@@ -26,7 +26,7 @@ sectionTables records section n m =
       transitions = map transitionOf (parts transitionSize (length section / transitionSize) section);
     }
 
--- an array of 16 sets, the first n of them the alphabets of the n components of T
+-- an array of 16 sets, the first n of them the alphabets of the n components of T (S3)
 pub record Alphabets (T : Tables) (n : ℕ) (l : List ℕ) : Type 0 where
   pub size : length l ≡ mostComponents
   pub count : n ≡ T .components

@@ -16,23 +16,25 @@ pub data Verdict : Type 0 where
   accepted : Verdict
   refused : ℕ → ℕ → Verdict
 
+-- refusal k, with the index 0, where its condition holds; else the verdict v (O1, O4)
 abbrev pub refuseIf : Bool → ℕ → Verdict → Verdict
 refuseIf true k v = refused k 0
 refuseIf false k v = v
 
+-- the refusal of the fault, with its step index; accepted where there is none (O4)
 abbrev pub ofFault : Option Fault → Verdict
 ofFault none = accepted
 ofFault (some f) = refused (f .number) (f .index)
 
--- refusals 10 to 12, from the start
+-- refusals 10 to 12, from the start (O3)
 unfoldable pub stepsVerdict : List ℕ → Verdict
 stepsVerdict b = ofFault (firstFault (tables b) (start (tables b)) 0 (steps b))
 
--- refusals 1 to 4 in the printed order, those of the trailer; then v
+-- refusals 1 to 4 in the printed order, those of the trailer; then v (O1)
 abbrev pub trailerVerdict : List ℕ → Verdict → Verdict
 trailerVerdict b v = refuseIf (lengthWrong b) 1 (refuseIf (markWrong b) 2 (refuseIf (countsWrong b) 3 (refuseIf (offsetsWrong b) 4 v)))
 
--- refusals 5 to 9 in the printed order, those of the tables and the count of actions; then v
+-- refusals 5 to 9 in the printed order, those of the tables and the count of actions; then v (O1)
 abbrev pub tablesVerdict : List ℕ → Verdict → Verdict
 tablesVerdict b v =
     refuseIf (recordsWrong b) 5

@@ -16,6 +16,6 @@ stepBytes xs = appendAll (map (bytes stepSize) xs)
 unfoldable pub trailer : ℕ → ℕ → ℕ → List ℕ
 trailer at n m = bytes 2 0 ++ (bytes 2 (recordSize * n) ++ (bytes 2 at ++ (n ∷ m ∷ mark)))
 
--- the sheet with these bytes before its steps, n components, m actions and the steps xs
+-- S2, N9: the sheet with these bytes before its steps, n components, m actions and the steps xs
 unfoldable pub sheetOf : List ℕ → ℕ → ℕ → List ℕ → List ℕ
 sheetOf before n m xs = before ++ (stepBytes xs ++ trailer (length before) n m)

@@ -40,10 +40,11 @@ examples =
     ∷ example (0 ∷ 1 ∷ 0 ∷ 3 ∷ []) ((0 ∷ 3 ∷ []) ∷ (1 ∷ []) ∷ (0 ∷ []) ∷ [])
     ∷ []
 
+-- N8: each word has the form that stands beside it
 pub forms : map (λ c. foata neighbours (c .word)) examples ≡ map (λ c. c .form) examples
 forms = refl
 
--- ---- swaps
+-- ---- swaps (Q9)
 
 pub apart-swap : Swap neighbours (0 ∷ 2 ∷ []) (2 ∷ 0 ∷ [])
 apart-swap = here refl
@@ -51,7 +52,7 @@ apart-swap = here refl
 pub neighbours-stay : ¬ Swap neighbours (0 ∷ 1 ∷ []) (1 ∷ 0 ∷ [])
 neighbours-stay (here e) = true≢false e
 
--- ---- the process condition
+-- ---- the process condition (N6)
 
 -- each step is held to the one just before it
 pub just-before : Process neighbours ((0 ∷ []) ∷ (1 ∷ []) ∷ (2 ∷ []) ∷ [])
@@ -64,7 +65,7 @@ not-the-first p = false≢true (p .1 .0)
 pub not-only-some : ¬ Process neighbours ((0 ∷ []) ∷ (1 ∷ 3 ∷ []) ∷ [])
 not-only-some p = false≢true (p .0)
 
--- ---- the first step that offends
+-- ---- the first step that offends (N7)
 
 abbrev offenceSteps : List (List (List ℕ))
 offenceSteps =
@@ -81,7 +82,7 @@ offenceSteps =
 pub offences : map (λ ss. offending (firstOffence neighbours ss)) offenceSteps ≡ 0 ∷ 0 ∷ 0 ∷ 2 ∷ 3 ∷ 2 ∷ 3 ∷ []
 offences = refl
 
--- ---- two dependent actions in one step
+-- ---- two dependent actions in one step (R11)
 
 abbrev clashSteps : List (List ℕ)
 clashSteps = [] ∷ (1 ∷ []) ∷ (0 ∷ 2 ∷ []) ∷ (1 ∷ 2 ∷ []) ∷ (0 ∷ 2 ∷ 3 ∷ []) ∷ (0 ∷ 3 ∷ 1 ∷ []) ∷ []

@@ -1,4 +1,4 @@
--- Insertion into a rising step: two insertions commute, and just the one action is added.
+-- Insertion into a rising step, as the normal form makes it (N8): two insertions commute, and just the one action is added.
 -- By an action that depends on none of the step's, the step stays rising and free of dependence.
 -- Assumes nothing.
 use mathlib.Core.Path.{_≡_, refl, sym, _∙_, ap}

@@ -47,7 +47,3 @@ module _ (dep : ℕ → ℕ → Bool) (D : Dependence dep) where
   -- N8, D3: no steps of the same trace are fewer
   pub foata-fewest : (ss : List (List ℕ)) (w : List ℕ) → Steps dep ss → Related dep (appendAll ss) w → length (foata dep w) ≤ length ss
   foata-fewest ss w S r = rw (sym (related-foata r)) (omega (arith, steps-length dep D [] ss S))
-
-  -- the normal form of a normal form is itself
-  pub foata-idem : (w : List ℕ) → foata dep (appendAll (foata dep w)) ≡ foata dep w
-  foata-idem w = related-foata (related-sym dep D (foata-related w))

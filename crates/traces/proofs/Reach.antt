@@ -1,4 +1,5 @@
--- The laws of `reach`, with the test free: an action put into a step that fails the test changes nothing, one that passes gives the larger of the old value and its place.
+-- The laws of `reach`, by which the normal form places an action (N8), with the test free: an action put into a step that fails the test
+-- changes nothing, one that passes gives the larger of the old value and its place.
 -- The reach of an "or" is the maximum; and what it is of steps put behind others.
 -- Assumes nothing.
 use mathlib.Core.Path.{_≡_, refl, sym, _∙_, ap}

@@ -13,6 +13,8 @@ use Rattle.sets.proofs.Lists.{anyOf-false}
 use Rattle.traces.specs.Words.{Dependence, Swap, here, later, Related, unchanged, swap}
 use Rattle.traces.specs.Steps.{clash}
 
+-- ---- related words (Q9, N5)
+
 module _ (dep : ℕ → ℕ → Bool) (D : Dependence dep) where
   pub related-trans : {u v w : List ℕ} → Related dep u v → Related dep v w → Related dep u w
   related-trans unchanged r = r

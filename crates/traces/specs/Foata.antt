@@ -1,4 +1,4 @@
--- The Foata normal form of a word: its actions one after another, each in the earliest step that the dependent actions before it allow.
+-- N8: the Foata normal form of a word: its actions one after another, each in the earliest step that the dependent actions before it allow.
 -- Assumes nothing.
 use mathlib.Core.Bool.{Bool, true, false, cond}
 use mathlib.Core.List.{List, [], _∷_}

@@ -1,4 +1,4 @@
--- Steps as rising lists of actions, and the process condition on them (N6; source document 001, definition 8).
+-- Steps as rising lists of actions (Q6, R10, R11), and the process condition on them (N6; source document 001, definition 8).
 -- Assumes nothing.
 use mathlib.Core.Path.{_≡_}
 use mathlib.Core.Logic.{_≢_}
@@ -8,17 +8,18 @@ use Prim.Native.Nat.{ℕ}
 use Rattle.sets.specs.Lists.{anyOf, allOf, Rising}
 
 module _ (dep : ℕ → ℕ → Bool) where
-  -- two actions of the step are dependent
+  -- R11: two actions of the step are dependent
   abbrev pub clash : List ℕ → Bool
   clash [] = false
   clash (a ∷ s) = anyOf (dep a) s || clash s
 
-  -- a step that may be taken: not empty, its actions in rising number, no two of them dependent
+  -- Q6, of one step: it is not empty (R10), its actions are in rising number (N2), and no two of them are dependent (R11)
   pub record Step (s : List ℕ) : Type 0 where
     pub nonempty : s ≢ []
     pub rising : Rising s
     pub apart : clash s ≡ false
 
+  -- Q6: each of the steps is so
   abbrev pub Steps : List (List ℕ) → Type 0
   Steps [] = Unit {0}
   Steps (s ∷ ss) = Step s × Steps ss
@@ -27,12 +28,12 @@ module _ (dep : ℕ → ℕ → Bool) where
   abbrev pub follows : List ℕ → List ℕ → Bool
   follows s t = allOf (λ a. anyOf (dep a) s) t
 
-  -- each step follows the one just before; the first step may be any
+  -- N6, of the steps behind s: each follows the one just before it
   abbrev pub FollowFrom : List ℕ → List (List ℕ) → Type 0
   FollowFrom s [] = Unit {0}
   FollowFrom s (t ∷ ts) = (follows s t ≡ true) × FollowFrom t ts
 
-  -- N6: the process condition
+  -- N6: the process condition; the first step may be any
   abbrev pub Process : List (List ℕ) → Type 0
   Process [] = Unit {0}
   Process (s ∷ ss) = FollowFrom s ss

@@ -24,7 +24,7 @@ over-both p q X =
     ∙ sym (append-assoc p q (drop (length p + length q) X))
     ∙ ap (λ (j : ℕ). (p ++ q) ++ drop j X) (sym (length-append p q))
 
--- the rest behind p is lent, and comes back with q over it
+-- the rest behind p is lent, and comes back with q over it (F4)
 pub lent-over : (p q X : List ℕ) {X' Y : List ℕ} {a k : ℕ} → X' ≡ over p X → a ≡ length p → k ≡ length X' - a → Y ≡ over q (midOf a k X')
     → putMid a k X' Y ≡ over (p ++ q) X
 lent-over p q X {X'} {Y} {a} {k} x at count y =
@@ -43,7 +43,7 @@ lent-over p q X {X'} {Y} {a} {k} x at count y =
     none : drop k (drop a X') ≡ []
     none = drop-of-length-le (drop a X') {i = k} (omega (arith, length-drop a X'))
 
--- a byte is stored behind p
+-- a byte is stored behind p (N9)
 pub stored-over : (p X : List ℕ) {X' : List ℕ} {i : ℕ} (v : ℕ) → X' ≡ over p X → i ≡ length p → i < length X → set X' i v ≡ over (p ++ (v ∷ [])) X
 stored-over p X {i = i} v x at h =
     ap (λ (l : List ℕ). set l i v) (x ∙ ap (λ (l : List ℕ). p ++ l) next)
@@ -54,7 +54,7 @@ stored-over p X {i = i} v x at h =
     next : drop (length p) X ≡ getD X (length p) 0 ∷ drop (suc (length p)) X
     next = drop-cons X (length p) 0 (omega arith)
 
--- ---- the bytes of a number
+-- ---- the bytes of a number, the low ones in front (S1)
 
 pub bytes-split : (a b x : ℕ) → bytes (a + b) x ≡ bytes a x ++ bytes b (x / 256 ^ a)
 bytes-split zero b x = ap₂ (λ (k y : ℕ). bytes k y) (zero-add b) (omega arith)
@@ -65,7 +65,7 @@ bytes-split (suc a) b x =
     power : x / 256 / 256 ^ a ≡ x / 256 ^ suc a
     power = div-div-eq-div-mul x 256 (256 ^ a) ∙ ap (λ (y : ℕ). x / y) (mul-comm 256 (256 ^ a) ∙ sym (pow-suc 256 a))
 
--- ---- the steps written so far
+-- ---- the steps written so far (S5, N9)
 
 pub steps-length : (k : ℕ) (xs : List ℕ) → k ≤ length xs → length (stepBytes (take k xs)) ≡ 8 * k
 steps-length k xs h = length-numbers 8 (take k xs) ∙ ap (λ (j : ℕ). 8 * j) (length-take-le k xs h)

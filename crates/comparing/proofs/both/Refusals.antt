@@ -25,7 +25,7 @@ use Rattle.desk.proofs.Accepted.{accepted-sheet}
 abbrev listed : Sizes → List ℕ
 listed z = z .n ∷ z .m ∷ z .t ∷ z .s ∷ []
 
--- ---- the check of the second sheet
+-- ---- the check of the second sheet (O6, O7)
 
 module _ (v : Verdict) (n m t s : ℕ) where
   pub second-accepted : (a : Answer) → NotRefused a → outcomeOf a ≡ onSheet 0 v (given (n ∷ m ∷ t ∷ s ∷ []))
@@ -43,7 +43,7 @@ module _ (v : Verdict) (n m t s : ℕ) where
       → refused k i 1 ≡ onSheet 1 v (given (n ∷ m ∷ t ∷ s ∷ []))
   second-refused a k i w q e = rw (told-refused k i w v (n ∷ m ∷ t ∷ s ∷ []) (ap outcomeOf (sym q) ∙ e) .0) refl
 
--- an accepted second sheet tells what the check of it alone tells
+-- an accepted second sheet tells what the check of it alone tells (N1)
 pub second-told : (c : List ℕ) (a : Answer) (z : Sizes) → a ≡ Answer.Accepted z → outcomeOf a ≡ onSheet 1 (verdict c) (given (sizesOf c)) → AcceptedSheet c z
 second-told c a z q e = accepted-sheet c z (go (verdict c) (ap outcomeOf (sym q) ∙ e))
   where
@@ -51,7 +51,7 @@ second-told c a z q e = accepted-sheet c z (go (verdict c) (ap outcomeOf (sym q)
     go Verdict.accepted h = h
     go (Verdict.refused k i) h = let z : _≡_ {A = ℕ} 0 1 = cc in absurd (omega arith)
 
--- ---- the check of both
+-- ---- the check of both (O6)
 
 -- an answer that is not accepted is passed on as it is, whatever would come after
 stays : (a : Answer) → NotAccepted a → (sheet : ℕ) (v : Verdict) (n m t s : ℕ) → outcomeOf a ≡ onSheet sheet v (given (n ∷ m ∷ t ∷ s ∷ []))
@@ -74,6 +74,7 @@ module _ (b c : List ℕ) where
   unfolding ofTwo
   second-stops acc a h e = rw acc (stays a h 1 (verdict c) (componentCount c) (actionCount c) (transitionsAt c) (stepsAt c) e tables-next)
 
+  -- R14: the tables differ
   pub tables-stop : Accepted b → Accepted c → tablesDiffer b c ≡ true → refused 14 0 0 ≡ ofTwo b c (sizesOf b)
   tables-stop acc acc′ e = sym (two-apart b c (sizesOf b) acc acc′ (λ t. not-both e (differ-false b c .1 t)))
 
@@ -81,16 +82,17 @@ module _ (b c : List ℕ) where
   two-pass z r acc e = sym (two-given b c (sizesOf b) (listed z) .1 (r .sheet-accepted, acc, differ-false b c .0 e, told))
     where
       told : sizesOf b ≡ listed z
-      told = rw (r .n-read, r .m-read, r .t-read, r .s-read) refl
+      told = rw (r .sizes-read .n-read, r .sizes-read .m-read, r .sizes-read .t-read, r .sizes-read .s-read) refl
 
--- ---- a pair that passed, and one that was refused
+-- ---- a pair that passed, and one that was refused (O6, O7)
 
--- both sheets have the same sizes and the same tables
+-- both sheets have the same sizes and the same tables (N4)
 pub record BothPassed (b c : List ℕ) (z : Sizes) : Type 0 where
   pub first-accepted : AcceptedSheet b z
   pub second-accepted : AcceptedSheet c z
   pub same-tables : SameTables b c
 
+-- R14: the sheets of a pair that is not refused have the same tables, and so the same sizes
 pub both-passed : (b c : List ℕ) (a : Answer) (z : Sizes) → a ≡ Answer.Accepted z → outcomeOf a ≡ ofTwo b c (sizesOf b) → BothPassed b c z
 both-passed b c a z q e = record { first-accepted = one; second-accepted = accepted-sheet c z second; same-tables = same }
   where
@@ -117,7 +119,7 @@ both-passed b c a z q e = record { first-accepted = one; second-accepted = accep
     second : outcomeOf (Answer.Accepted z) ≡ readOutcome c (verdict c)
     second = told c (all .1) (sym (all .3) ∙ rw (same .same-components, same .same-actions, third, same .same-steps-at) refl)
 
--- the answer is a refusal, and the pair gets it whatever it would get
+-- the answer is a refusal, and the pair gets it whatever it would get (O6, O7)
 pub record TwoRefused (b c : List ℕ) (a : Answer) : Type 0 where
   pub number : ℕ
   pub index : ℕ
@@ -133,6 +135,7 @@ refused-two b c (Answer.Given y) h e =
     absurd (omega arith)
 refused-two b c (Answer.Refused k i s) h e = record { number = k; index = i; sheet = s; answer-told = refl; two-told = e }
 
+-- O6: the refusal of a pair does not depend on what was asked of it
 pub refused-alike : {A B : Type 0} (b c : List ℕ) (x : A) (y : B) (k i s : ℕ) → refused k i s ≡ ofTwo b c x → refused k i s ≡ ofTwo b c y
 unfolding ofTwo
 refused-alike {A} {B} b c x y k i s e = go (verdict b) (verdict c) (tablesDiffer b c) e

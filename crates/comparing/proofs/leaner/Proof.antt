@@ -1,4 +1,4 @@
--- `comparing::leaner` meets its contract: of a pair that passed the step section of the leaner sheet, else an empty part.
+-- `comparing::leaner` meets its contract (A2): of a pair that passed the step section of the leaner sheet, else an empty part.
 -- Assumes nothing.
 use Rattle.comparing.proofs.both.Refusals.{BothPassed, both-passed, refused-two}
 use Rattle.comparing.proofs.TwoSheetCalls.{both-accepted, no-section, section-first, section-second}
@@ -19,7 +19,7 @@ passed-at k =
     both-passed _ _ (told .result) _ (k .before .answer .given .1) (told .ensures)
 
 step-section-requires : tie.Need-step-section-requires
-step-section-requires c κs = passed-at (c .before .before) .second-accepted .trailer-last
+step-section-requires c κs = passed-at (c .before .before) .second-accepted .sizes-read .trailer-last
 
 returns-2 : tie.Need-returns-2
 returns-2 c =
@@ -27,7 +27,7 @@ returns-2 c =
     section-second (passed-at (w .before)) _ (w .second-leaner .result) (c .before .if1 .taken) (w .second-leaner .ensures) (c .step-section .ensures)
 
 step-section-requires-2 : tie.Need-step-section-requires-2
-step-section-requires-2 c κs = passed-at (c .before .before) .first-accepted .trailer-last
+step-section-requires-2 c κs = passed-at (c .before .before) .first-accepted .sizes-read .trailer-last
 
 returns-3 : tie.Need-returns-3
 returns-3 c =

@@ -22,7 +22,7 @@ unfolding front
 front-taken b s e = ap (λ (x : ℕ). take x b) e
 
 pub front-size : (b : List ℕ) (z : Sizes) (s : ℕ) → AcceptedSheet b z → s ≡ z .s → s ≡ length (take s b)
-front-size b z s p e = let last = p .trailer-last in sym (length-take-le s b (omega arith))
+front-size b z s p e = let last = p .sizes-read .trailer-last in sym (length-take-le s b (omega arith))
 
 module _ (b c : List ℕ) where
   differ-true : ¬ SameTables b c → true ≡ tablesDiffer b c
@@ -34,31 +34,31 @@ module _ (b c : List ℕ) where
 
   module _ (z w : Sizes) (p : AcceptedSheet b z) (q : AcceptedSheet c w) where
     pub differ-n : ¬ (z .n ≡ w .n) → true ≡ tablesDiffer b c
-    differ-n h = differ-true (λ t. h (p .n-read ∙ t .same-components ∙ sym (q .n-read)))
+    differ-n h = differ-true (λ t. h (p .sizes-read .n-read ∙ t .same-components ∙ sym (q .sizes-read .n-read)))
 
     pub differ-m : ¬ (z .m ≡ w .m) → true ≡ tablesDiffer b c
-    differ-m h = differ-true (λ t. h (p .m-read ∙ t .same-actions ∙ sym (q .m-read)))
+    differ-m h = differ-true (λ t. h (p .sizes-read .m-read ∙ t .same-actions ∙ sym (q .sizes-read .m-read)))
 
     pub differ-s : ¬ (z .s ≡ w .s) → true ≡ tablesDiffer b c
-    differ-s h = differ-true (λ t. h (p .s-read ∙ t .same-steps-at ∙ sym (q .s-read)))
+    differ-s h = differ-true (λ t. h (p .sizes-read .s-read ∙ t .same-steps-at ∙ sym (q .sizes-read .s-read)))
 
     -- with the numbers the same, the bytes before S decide
     pub differ-front : z .n ≡ w .n → z .m ≡ w .m → z .s ≡ w .s → not (sameNumbers (take (z .s) b) (take (z .s) c)) ≡ tablesDiffer b c
     differ-front hn hm hs = go (sameNumbers (take (z .s) b) (take (z .s) c)) refl
       where
         one : take (z .s) b ≡ front b
-        one = front-taken b (z .s) (p .s-read)
+        one = front-taken b (z .s) (p .sizes-read .s-read)
 
         two : take (z .s) c ≡ front c
-        two = front-taken c (z .s) (hs ∙ q .s-read)
+        two = front-taken c (z .s) (hs ∙ q .sizes-read .s-read)
 
         go : (t : Bool) → sameNumbers (take (z .s) b) (take (z .s) c) ≡ t → not t ≡ tablesDiffer b c
         go true e =
             sym (differ-false b c .1
             (record {
               same-front = sym one ∙ same-numbers (take (z .s) b) (take (z .s) c) .0 e ∙ two;
-              same-steps-at = sym (p .s-read) ∙ hs ∙ q .s-read;
-              same-components = sym (p .n-read) ∙ hn ∙ q .n-read;
-              same-actions = sym (p .m-read) ∙ hm ∙ q .m-read;
+              same-steps-at = sym (p .sizes-read .s-read) ∙ hs ∙ q .sizes-read .s-read;
+              same-components = sym (p .sizes-read .n-read) ∙ hn ∙ q .sizes-read .n-read;
+              same-actions = sym (p .sizes-read .m-read) ∙ hm ∙ q .sizes-read .m-read;
             }))
         go false e = differ-true (λ t. not-both (same-numbers (take (z .s) b) (take (z .s) c) .1 (one ∙ t .same-front ∙ sym two)) e)

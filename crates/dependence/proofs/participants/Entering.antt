@@ -2,8 +2,8 @@
 -- Assumes nothing.
 use mathlib.Core.Path.{_≡_, sym, ap, _∙_}
 use mathlib.Core.Logic.{_↔_, _≢_, _⊎_, inl, inr}
-use mathlib.Core.Bool.{true, false, _||_}
-use mathlib.Core.List.{List, _∷_, List·Memᴰ, List·Memᴰ·head, List·Memᴰ·tail}
+use mathlib.Core.Bool.{true, _||_}
+use mathlib.Core.List.{List, _∷_}
 use Prim.Native.Nat.{ℕ, suc, _≤_, _<_}
 use native.Mathlib.Nat.{lt-of-not-le, lt-of-lt-of-le}
 use native.Mathlib.Omega.{arith}
@@ -11,39 +11,12 @@ use lib.Dec.{eqb}
 use lib.ListN.{length, getD, set, replicate, getD-replicate, List·getD-eq-default}
 use lib.Seq.{getD-set-same, getD-set-other}
 use Rattle.sets.specs.Bits.{member, members, with}
-use Rattle.sets.proofs.Bools.{true-or-false, not-both, or-true, eqb-true, eqb-false}
-use Rattle.sets.proofs.Members.{member-zero, member-with, members-mem, lt-members}
+use Rattle.sets.proofs.Bools.{not-both, or-true, eqb-true, equal-or-not}
+use Rattle.sets.proofs.Members.{member-zero, member-with, lt-members}
+use Rattle.sets.proofs.LowestBit.{lowest-or-rest}
 use Rattle.systems.specs.Tables.{Tables}
 use Rattle.sheet.specs.Sections.{Alphabets}
 use Rattle.dependence.specs.participants.Participants.{participates, Participants, OfSixteen, ComponentEntered}
-
-equal-or-not : (a b : ℕ) → (a ≡ b) ⊎ (a ≢ b)
-equal-or-not a b = go (true-or-false (eqb a b))
-  where
-    go : (eqb a b ≡ true) ⊎ (eqb a b ≡ false) → (a ≡ b) ⊎ (a ≢ b)
-    go (inl e) = inl (eqb-true a b .0 e)
-    go (inr e) = inr (eqb-false a b .0 e)
-
--- an element of a list whose head is known
-head-or-tail : {a x : ℕ} {l : List ℕ} → List·Memᴰ a (x ∷ l) → (a ≡ x) ⊎ List·Memᴰ a l
-head-or-tail (List·Memᴰ·head e) = inl e
-head-or-tail (List·Memᴰ·tail m) = inr m
-
--- the elements of a set whose lowest is known
-pub lowest-or-rest : (x low rest : ℕ) → members x ≡ low ∷ members rest → (a : ℕ) → a < 64
-    → (member x a ≡ true) ↔ ((a ≡ low) ⊎ (member rest a ≡ true))
-lowest-or-rest x low rest e a h = (
-  λ m. there (head-or-tail (rw e at (members-mem x a .1 (h, m)))),
-  λ s. members-mem x a .0 (rw e (back s)) .1,
-)
-  where
-    there : (a ≡ low) ⊎ List·Memᴰ a (members rest) → (a ≡ low) ⊎ (member rest a ≡ true)
-    there (inl q) = inl q
-    there (inr m) = inr (members-mem rest a .0 m .1)
-
-    back : (a ≡ low) ⊎ (member rest a ≡ true) → List·Memᴰ a (low ∷ members rest)
-    back (inl q) = List·Memᴰ·head q
-    back (inr m) = List·Memᴰ·tail (members-mem rest a .1 (h, m))
 
 -- ---- one alphabet, action by action
 

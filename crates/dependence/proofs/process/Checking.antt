@@ -3,15 +3,15 @@
 -- Assumes nothing.
 use mathlib.Core.Path.{_≡_, refl, sym, ap, ap₂, _∙_}
 use mathlib.Core.Bool.{Bool, true, false}
-use mathlib.Core.List.{List, [], _∷_, map, List·Memᴰ, List·Memᴰ·head, List·Memᴰ·tail, Memᴰ·cast}
+use mathlib.Core.List.{List, [], _∷_, map, List·Memᴰ, Memᴰ·cast}
 use mathlib.Core.Option.{none, some}
-use Prim.Native.Nat.{ℕ, zero, suc, _+_, _-_, _*_, _/_, _<_, _≤_}
+use Prim.Native.Nat.{ℕ, suc, _+_, _-_, _*_, _/_, _<_, _≤_}
 use native.Mathlib.Numerals.{add-one}
 use native.Mathlib.Omega.{arith}
 use lib.ListN.{length, getD, drop, drop-of-length-le, length-map, List·getD-map}
 use lib.Seq.{drop-cons}
 use Rattle.sets.specs.Bits.{members}
-use Rattle.sets.proofs.Lists.{mem-appendAll}
+use Rattle.sets.proofs.Lists.{mem-appendAll, getD-mem}
 use Rattle.sets.proofs.Members.{members-zero}
 use Rattle.traces.specs.Steps.{follows}
 use Rattle.systems.specs.Checking.{flat}
@@ -56,11 +56,6 @@ module _ (dep : ℕ → ℕ → Bool) where
           back = omega arith
 
 -- ---- the steps of a section
-
-getD-mem {ℓ} : {A : Type ℓ} (l : List A) (i : ℕ) (d : A) → i < length l → List·Memᴰ (getD l i d) l
-getD-mem [] i d h = absurd (omega arith)
-getD-mem (x ∷ l) zero d h = List·Memᴰ·head refl
-getD-mem (x ∷ l) (suc i) d h = List·Memᴰ·tail (getD-mem l i d (omega arith))
 
 module _ (b : List ℕ) where
   section-length : length (map members (stepsIn b)) ≡ length b / 8

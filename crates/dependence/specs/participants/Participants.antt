@@ -10,21 +10,21 @@ use Rattle.sets.specs.Bits.{member}
 use Rattle.systems.specs.Tables.{Tables}
 use Rattle.sheet.specs.Bounds.{mostComponents, mostActions}
 
--- the component j takes part in the action a
+-- N3: the component j takes part in the action a
 abbrev pub participates : List ℕ → ℕ → ℕ → Bool
 participates o j a = member (getD o a 0) j
 
--- an array of 64 sets: entry a has the components of T whose alphabets have the action a
+-- N3: entry a has the components of T whose alphabets have the action a; there are 64 entries, as many as a sheet may have actions (L2)
 pub record Participants (T : Tables) (o : List ℕ) : Type 0 where
   pub size : length o ≡ mostActions
   pub each : (a : ℕ) → a < mostActions → (j : ℕ) → (participates o j a ≡ true) ↔ ((j < T .components) × (member (T .alphabet j) a ≡ true))
 
--- an array of 64 sets of components below 16
+-- L1, L2: an array of 64 sets, one for each action that there may be; their elements are components, so below 16
 pub record OfSixteen (o : List ℕ) : Type 0 where
   pub size : length o ≡ mostActions
   pub small : (a : ℕ) → getD o a 0 < 2 ^ mostComponents
 
--- the component j was entered for each action of its alphabet
+-- N3: the component j was entered for each action of its alphabet, and nothing else was changed; there are 64 entries (L2)
 pub record ComponentEntered (alphabet j : ℕ) (before after : List ℕ) : Type 0 where
   pub size : length after ≡ mostActions
   pub each : (a : ℕ) → a < mostActions → (i : ℕ)

@@ -28,6 +28,7 @@ refused-right : (b out : List ℕ) (k i s : ℕ) → restating b (length out) �
 refused-right b out k i s e =
     record { answer-told = ap (values oneValue) (sym e); output-left = sym (refused-kept b out k i s e) }
 
+-- O5: the sheet's own refusal is told, and the output is as it came
 pub restate-refused : (b out : List ℕ) (r : Answer) (v : Verdict) (s : IsRefusal r v) → verdict b ≡ Verdict.refused (s .number) (s .index) → RestateAnswer b out r out
 restate-refused b out r v s same =
     rw (s .answer-told) (refused-right b out (s .number) (s .index) 0 (refused-first b (length out) (s .number) (s .index) same))
@@ -35,7 +36,7 @@ restate-refused b out r v s same =
 module _ (b : List ℕ) (z : Sizes) (r : AcceptedSheet b z) (packed : List ℕ) (count : ℕ) (p : PackedSteps b packed count) where
   sheet-told : sheetOf (take (z .s) b) (z .n) (z .m) (take count packed) ≡ restated b
   unfolding restated front
-  sheet-told = ap₂ (λ (x : ℕ) (xs : List ℕ). sheetOf (take x b) (z .n) (z .m) xs) (r .s-read) (p .sets) ∙ rw (r .n-read, r .m-read)
+  sheet-told = ap₂ (λ (x : ℕ) (xs : List ℕ). sheetOf (take x b) (z .n) (z .m) xs) (r .sizes-read .s-read) (p .sets) ∙ rw (r .sizes-read .n-read, r .sizes-read .m-read)
 
   size-told : z .s + 8 * count + 10 ≡ length (restated b)
   unfolding restated
@@ -45,9 +46,11 @@ module _ (b : List ℕ) (z : Sizes) (r : AcceptedSheet b z) (packed : List ℕ) 
       let e = p .counted in
       omega arith
 
+  -- R13: the output is too short for the restated sheet, and is as it came (O5)
   pub restate-short : (out : List ℕ) → length out < z .s + 8 * count + 10 → RestateAnswer b out (Refused 13 0 0) out
   restate-short out h = refused-right b out 13 0 0 (refused-short b (length out) (r .sheet-accepted) (let e = size-told in omega arith))
 
+  -- N9: the packed steps, written with tables and trailer, are the restated sheet in the output
   pub restate-written : (out after : List ℕ) → z .s + 8 * count + 10 ≤ length out
       → after ≡ over (sheetOf (take (z .s) b) (z .n) (z .m) (take count packed)) out → RestateAnswer b out (Given (z .s + 8 * count + 10)) after
   restate-written out after h e =

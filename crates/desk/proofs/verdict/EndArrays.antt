@@ -39,7 +39,7 @@ module _ (b : List ℕ) (a : Answer) (held : List ℕ) (k : EndsLeft b a held) (
       }
     where
       each : (j : ℕ) → setBelow held (z .n) j ≡ cond (ltb j (componentCount b)) (endSet b j) 0
-      each j = rw (s .n-read) (go (ltb j (componentCount b)) refl)
+      each j = rw (s .sizes-read .n-read) (go (ltb j (componentCount b)) refl)
         where
           go : (c : Bool) → ltb j (componentCount b) ≡ c → cond c (getD held j 0) 0 ≡ cond c (endSet b j) 0
           go true q = k .ends (s .sheet-accepted) j (ltb-true j (componentCount b) .0 q)

@@ -12,34 +12,22 @@ use Rattle.sheet.specs.Layout.{componentCount, actionCount, transitionsAt, step
 use Rattle.sheet.specs.Limits.{InLimits}
 use Rattle.sheet.specs.Verdict.{Verdict, accepted, refused, ofFault, trailerVerdict, tablesVerdict, stepsVerdict, verdict}
 use Rattle.sheet.proofs.Guards.{trailer-guard, tables-guard, guard-stopped, guard-passed}
-use Rattle.sheet.proofs.Limits.{limits-exact}
-use Rattle.sheet.proofs.Passing.{Passing, stops, passes, passing}
 use Rattle.sheet.proofs.RoundTrip.{section-steps}
+use Rattle.sheet.proofs.Verdicts.{passed-limits}
 use Rattle.dependence.specs.participants.Participants.{Participants}
 use Rattle.answers.specs.declared.Sizes.{Sizes}
 use Rattle.answers.specs.declared.Answer.{Answer}
-use Rattle.answers.specs.declared.Answer.the-variants.{Accepted as AcceptedAnswer, Given, Refused}
-use Rattle.answers.specs.Outcomes.{Outcome, given, outcomeOf, after, sizesOf, readOutcome}
+use Rattle.answers.specs.declared.Answer.the-variants.{Accepted as AcceptedAnswer}
+use Rattle.answers.specs.Outcomes.{Outcome, outcomeOf, after, readOutcome}
 use Rattle.answers.specs.Ends.{endSet}
 use Rattle.answers.proofs.Restated.{accepted-fine}
 use Rattle.answers.proofs.Passing.{NotAccepted, IsRefusal, stopped-by, told-accepted, same-sizes}
 use Rattle.reading.specs.Reading.{TrailerPassed, upToTrailer}
+use Rattle.reading.proofs.Passing.{trailer-then}
 use Rattle.sheet.specs.Sections.{stepsIn}
 use Rattle.machine.specs.Runs.{RunFromStart}
 use Rattle.machine.proofs.Running.{tables-told}
-use Rattle.desk.specs.Left.{refusalOrSizes, EndsLeft, ParticipantsLeft}
-
--- ---- the refusal of an answer, or the sizes
-
--- of a sheet that has the sizes z: what was told of the verdict v with something else is told with the sizes
-pub or-sizes : (b : List ℕ) (z : Sizes) → outcomeOf (AcceptedAnswer z) ≡ readOutcome b accepted → (r : Answer) (v : Verdict) (x : List ℕ)
-    → outcomeOf r ≡ after v (given x) → outcomeOf (refusalOrSizes r z) ≡ readOutcome b v
-or-sizes b z e (AcceptedAnswer y) accepted x q = e
-or-sizes b z e (Given y) accepted x q = e
-or-sizes b z e (Refused k i s) accepted x q = let z : _≡_ {A = ℕ} 0 1 = cc in absurd (omega arith)
-or-sizes b z e (AcceptedAnswer y) (refused k i) x q = let z : _≡_ {A = ℕ} 0 1 = cc in absurd (omega arith)
-or-sizes b z e (Given y) (refused k i) x q = let z : _≡_ {A = ℕ} 0 1 = cc in absurd (omega arith)
-or-sizes b z e (Refused l j s) (refused k i) x q = q
+use Rattle.desk.specs.Left.{ToldWithSizes, EndsLeft, ParticipantsLeft}
 
 -- ---- a refused sheet leaves nothing that is promised
 
@@ -75,7 +63,7 @@ module _ (b : List ℕ) (z : Sizes) (t : TrailerPassed b z) where
 
   pub verdict-then : verdict b ≡ tablesVerdict b (stepsVerdict b)
   unfolding verdict
-  verdict-then = guard-passed (trailer-guard b) (trailer-told .0) (tablesVerdict b (stepsVerdict b))
+  verdict-then = trailer-then b z t (tablesVerdict b (stepsVerdict b))
 
   pub tables-verdict : {r : Answer} (s : IsRefusal r (tablesVerdict b accepted)) → verdict b ≡ refused (s .number) (s .index)
   tables-verdict s = verdict-then ∙ guard-stopped (tables-guard b) (s .number) (s .index) (s .verdict-told) (stepsVerdict b)
@@ -94,18 +82,11 @@ module _ (b : List ℕ) (z : Sizes) (t : TrailerPassed b z) where
 
     -- none of 1 to 9 holds
     pub read-limits : InLimits b
-    read-limits = go (passing b)
-      where
-        go : Passing b → InLimits b
-        go (stops k h) =
-            let c : refused k 0 ≡ accepted =
-            sym (h accepted) ∙ guard-passed (trailer-guard b) (trailer-told .0) (tablesVerdict b accepted) ∙ tables-told-accepted .0 in
-            let z : _≡_ {A = ℕ} 0 1 = cc in absurd (omega arith)
-        go (passes none-holds h) = limits-exact b .0 none-holds
+    read-limits = passed-limits b (trailer-told .0) (tables-told-accepted .0)
 
     verdict-steps : verdict b ≡ ofFault (firstFault (tables b) (start (tables b)) 0 (steps b))
     unfolding stepsVerdict
-    verdict-steps = verdict-then ∙ guard-passed (tables-guard b) (tables-told-accepted .0) (stepsVerdict b)
+    verdict-steps = verdict-then ∙ guard-passed (tables-guard b) (tables-told-accepted .0) .1 (stepsVerdict b)
 
     sheet-answered : (r : Answer) (held : List ℕ) → RunFromStart (tables b) w (steps b) r held → EndsLeft b r held
     unfolding endSet tables tablesOf
@@ -145,12 +126,12 @@ module _ (b : List ℕ) where
   pub trailer-part : (z : Sizes) → TrailerPassed b z → TrailerPassed (take (length b - 0) b) z
   trailer-part z e = subst (λ (x : List ℕ). TrailerPassed x z) (sym part-whole) e
 
-  pub ends-part : (z : Sizes) → TrailerPassed b z → (r : Answer) (held : List ℕ) → EndsLeft (take (length b - 0) b) r held
-      → EndsLeft b (refusalOrSizes r z) held
-  ends-part z t r held h =
-      let whole = subst (λ (x : List ℕ). EndsLeft x r held) part-whole h in
+  pub ends-part : (z : Sizes) → TrailerPassed b z → {a r : Answer} {held : List ℕ} → EndsLeft (take (length b - 0) b) a held
+      → ToldWithSizes a z r → EndsLeft b r held
+  ends-part z t {a} {r} {held} h told =
+      let whole = subst (λ (x : List ℕ). EndsLeft x a held) part-whole h in
       record {
         size = whole .size;
-        answer-told = or-sizes b z (t ∙ ap (readOutcome b) (trailer-told b z t .0)) r (verdict b) (sizesOf b) (whole .answer-told);
+        answer-told = told b (verdict b) (t ∙ ap (readOutcome b) (trailer-told b z t .0)) (whole .answer-told);
         ends = whole .ends;
       }

@@ -1,4 +1,4 @@
--- `mark::put_report` meets its contract: the text is long enough for any report, so there is one.
+-- `mark::put_report` meets its contract (P1 to P5): the text is long enough for any report, so there is one.
 -- Assumes nothing.
 use mathlib.Core.Path.{_≡_, sym, ap, _∙_}
 use mathlib.Core.Logic.{inl, inr}

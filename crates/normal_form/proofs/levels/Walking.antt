@@ -1,8 +1,8 @@
--- Walking over the components of a set, from the lowest up.
+-- Walking over the components of an action, from the lowest up: so its restated step is found, and entered for each of them (N8).
 -- Assumes nothing.
 use mathlib.Core.Path.{_≡_, refl, ap, _∙_}
 use mathlib.Core.Bool.{true, false}
-use mathlib.Core.List.{List, _∷_, List·Memᴰ·head}
+use mathlib.Core.List.{List, _∷_}
 use mathlib.Core.Logic.{_↔_, _⊎_, inl, inr}
 use Prim.Native.Nat.{ℕ, suc, _+_, _^_, _<_, max}
 use native.Mathlib.Numerals.{add-one}
@@ -11,14 +11,14 @@ use lib.ListN.{length, getD, set}
 use lib.Seq.{getD-set-same, getD-set-other}
 use Rattle.sets.specs.Bits.{member, members}
 use Rattle.sets.proofs.Bools.{true-or-false, not-both, false-iff}
-use Rattle.sets.proofs.Members.{member-zero, member-lt, members-mem, members-zero}
-use Rattle.dependence.proofs.participants.Entering.{lowest-or-rest}
+use Rattle.sets.proofs.Members.{member-zero, member-lt, members-zero}
+use Rattle.sets.proofs.LowestBit.{first-member, lowest-or-rest}
 use Rattle.dependence.specs.participants.Levels.{largest}
 use Rattle.normal_form.specs.levels.Levels.{LevelsRaised}
 
 -- the first component of a set
 pub first-below : (x r : ℕ) (rest : List ℕ) → x < 2 ^ 16 → members x ≡ r ∷ rest → r < 16
-first-below x r rest h e = member-lt 16 x r h (members-mem x r .0 (rw e (List·Memᴰ·head refl)) .1)
+first-below x r rest h e = member-lt 16 x r h (first-member x r rest e)
 
 -- no component is left
 pub raised-none : (left level : ℕ) (last : List ℕ) → left ≡ 0 → LevelsRaised left level last last

@@ -1,4 +1,4 @@
--- `normal_form::pack` meets its contract. The loop's invariant: the actions of the steps from k on are still to be placed.
+-- `normal_form::pack` meets its contract (N8). The loop's invariant: the actions of the steps from k on are still to be placed.
 -- The measure is what is left of the steps. Assumes nothing.
 use mathlib.Core.Path.{sym, _∙_}
 use Prim.Native.Nat.{_-_, _/_, _≤_}

@@ -20,8 +20,11 @@ pub record Shows (o : List ℕ) (ss : List (List ℕ)) (last packed : List ℕ) 
   pub packed-sets : packed ≡ map setOf ss ++ replicate (mostSteps - count) 0
   pub last-steps : (j : ℕ) → j < mostComponents → getD last j 0 ≡ reach (participates o j) ss
 
--- the actions of w have been placed: each took the room of at most one step; and for all tables whose participants the array o has, whatever
--- steps were shown, they are now shown with those actions placed on them
+-- The actions of the word w have been placed, one after another. The names without a prime are the arrays and the number of steps before,
+-- those with a prime are the same afterwards.
+-- `room`: if there was room for these actions and k more, there is now room for k more.
+-- `shown`: if the arrays showed some steps before, they now show these steps with the actions of w placed on them. This holds for all
+-- tables whose participants stand in the array o.
 pub record PlacesWord (o w last packed : List ℕ) (count : ℕ) (last′ packed′ : List ℕ) (count′ : ℕ) : Type 0 where
   pub room : (k : ℕ) → Room last (length w + k) → Room last′ k
   pub shown : (T : Tables) → InOrder T → Participants T o → WordOver T w → (ss : List (List ℕ)) → Shows o ss last packed count

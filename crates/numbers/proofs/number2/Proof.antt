@@ -1,4 +1,4 @@
--- `numbers::number2` meets its contract: a field of two bytes is its first byte and 256 times its second. Assumes nothing.
+-- `numbers::number2` meets its contract (S1): a field of two bytes is its first byte and 256 times its second. Assumes nothing.
 use mathlib.Core.Path.{_≡_}
 use Prim.Native.Nat.{_+_, _*_}
 use native.Mathlib.Omega.{arith}

@@ -1,4 +1,4 @@
--- `numbers::number4` meets its contract: a field of four bytes is the first two and 65536 times the other two. Assumes nothing.
+-- `numbers::number4` meets its contract (S1): a field of four bytes is the first two and 65536 times the other two. Assumes nothing.
 use mathlib.Core.Path.{_≡_}
 use Prim.Native.Nat.{_+_, _*_}
 use native.Mathlib.Omega.{arith}

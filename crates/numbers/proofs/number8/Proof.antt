@@ -1,4 +1,4 @@
--- `numbers::number8` meets its contract: a field of eight bytes is the first four and 2 ^ 32 times the other four. Assumes nothing.
+-- `numbers::number8` meets its contract (S1): a field of eight bytes is the first four and 2 ^ 32 times the other four. Assumes nothing.
 use mathlib.Core.Path.{_≡_}
 use Prim.Native.Nat.{_+_, _*_}
 use native.Mathlib.Omega.{arith}

@@ -1,14 +1,14 @@
--- `oatmist::oatmist_check` meets its contract: the verdict is handed back.
+-- `oatmist::oatmist_check` meets its contract (O1, S6): the verdict is handed back.
 -- Assumes nothing.
 use borrow.Author.Needs.{needs}
-use Rattle.oatmist.proofs.Packing.{packable-read, packable-told, handed-told}
+use Rattle.oatmist.proofs.FitsWord.{fits-read, fits-told, handed-told}
 use Rattle.oatmist.proofs.oatmist_check.Statement.{statement}
 use Rattle.oatmist.proofs.oatmist_check.Tie as tie
 
 hand-requires : tie.Need-hand-requires
 hand-requires c κs =
     let told = c .before .check in
-    packable-told (told .result) _ (told .ensures) (packable-read _ _)
+    fits-told (told .result) _ (told .ensures) (fits-read _ _)
 
 returns : tie.Need-returns
 returns c =

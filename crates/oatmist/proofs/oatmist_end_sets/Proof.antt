@@ -1,4 +1,4 @@
--- `oatmist::oatmist_end_sets` meets its contract: a refusal is handed back, else the sets are filled in.
+-- `oatmist::oatmist_end_sets` meets its contract (E5): a refusal is handed back, else the sets are filled in.
 -- Assumes nothing.
 use mathlib.Core.Path.{_≡_, refl, sym, ap, subst, _∙_}
 use mathlib.Core.List.{List}
@@ -12,7 +12,7 @@ use Rattle.answers.specs.Ends.{endArray, endsOutcome}
 use Rattle.answers.proofs.Passing.{NotAccepted, IsRefusal, stopped-by, told-accepted}
 use Rattle.desk.specs.Calls.{CheckAnswer, endArrayBy}
 use Rattle.oatmist.specs.Convention.{CAnswer, withValues}
-use Rattle.oatmist.proofs.Packing.{packable-read, packable-told, handed-told}
+use Rattle.oatmist.proofs.FitsWord.{fits-read, fits-told, handed-told}
 use Rattle.oatmist.proofs.oatmist_end_sets.Statement.{statement}
 use Rattle.oatmist.proofs.oatmist_end_sets.Tie as tie
 
@@ -30,7 +30,7 @@ accepted-told b acc = rw acc refl
 hand-requires : tie.Need-hand-requires
 hand-requires c κs =
     let ended = c .before .before in
-    packable-told (ended .end-sets .result .answer) _ (ended .end-sets .ensures .answer-told) (packable-read (ended .before .before .before .args .sheet .now) _)
+    fits-told (ended .end-sets .result .answer) _ (ended .end-sets .ensures .answer-told) (fits-read (ended .before .before .before .args .sheet .now) _)
 
 returns : tie.Need-returns
 returns c =
@@ -45,11 +45,11 @@ returns-2 : tie.Need-returns-2
 returns-2 c =
     let made = c .before .before in
     let k = made .before .before .before .before in
-    let ended = k .before .before .before in
+    let ended = k .before .before in
     let b = ended .before .before .before .args .sheet .now in
     let acc =
-    told-accepted (k .before .answer .given .0 .0) (verdict b) (componentCount b) (actionCount b) (transitionsAt b) (stepsAt b)
-    (ap outcomeOf (sym (k .before .answer .given .1)) ∙ ended .end-sets .ensures .answer-told) .0
+    told-accepted (k .enum-told .given .0 .0) (verdict b) (componentCount b) (actionCount b) (transitionsAt b) (stepsAt b)
+    (ap outcomeOf (sym (k .enum-told .given .1)) ∙ ended .end-sets .ensures .answer-told) .0
     in
     subst (λ (o : Outcome (List ℕ)). CAnswer o 0 (ended .before .before .before .args .ends .now) (made .fill .last .1 .0)) (accepted-told b acc)
     (refl, made .fill .ensures ∙ ap (λ (xs : List ℕ). withValues xs (ended .before .before .before .args .ends .now)) (ended .end-sets .ensures .sets-told))

@@ -1,14 +1,14 @@
--- `oatmist::oatmist_figure` meets its contract: the figure is handed back.
+-- `oatmist::oatmist_figure` meets its contract (A4): the figure is handed back.
 -- Assumes nothing.
 use borrow.Author.Needs.{needs}
-use Rattle.oatmist.proofs.Packing.{packable-figure, packable-told, handed-told}
+use Rattle.oatmist.proofs.FitsWord.{fits-figure, fits-told, handed-told}
 use Rattle.oatmist.proofs.oatmist_figure.Statement.{statement}
 use Rattle.oatmist.proofs.oatmist_figure.Tie as tie
 
 hand-requires : tie.Need-hand-requires
 hand-requires c κs =
     let told = c .before .figure-of in
-    packable-told (told .result) _ (told .ensures) (packable-figure _)
+    fits-told (told .result) _ (told .ensures) (fits-figure _)
 
 returns : tie.Need-returns
 returns c =

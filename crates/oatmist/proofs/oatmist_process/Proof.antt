@@ -1,14 +1,14 @@
--- `oatmist::oatmist_process` meets its contract: the answer of the process check is handed back.
+-- `oatmist::oatmist_process` meets its contract (N7): the answer of the process check is handed back.
 -- Assumes nothing.
 use borrow.Author.Needs.{needs}
-use Rattle.oatmist.proofs.Packing.{packable-process, packable-told, handed-told}
+use Rattle.oatmist.proofs.FitsWord.{fits-process, fits-told, handed-told}
 use Rattle.oatmist.proofs.oatmist_process.Statement.{statement}
 use Rattle.oatmist.proofs.oatmist_process.Tie as tie
 
 hand-requires : tie.Need-hand-requires
 hand-requires c κs =
     let told = c .before .process-check in
-    packable-told (told .result) _ (told .ensures) (packable-process _)
+    fits-told (told .result) _ (told .ensures) (fits-process _)
 
 returns : tie.Need-returns
 returns c =

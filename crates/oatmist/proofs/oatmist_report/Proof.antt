@@ -1,14 +1,14 @@
--- `oatmist::oatmist_report` meets its contract: the length of the text is told, and the output is what the report left.
+-- `oatmist::oatmist_report` meets its contract (P1 to P5, R13): the length of the text is told, and the output is what the report left.
 -- Assumes nothing.
 use borrow.Author.Needs.{needs}
-use Rattle.oatmist.proofs.Packing.{packable-report, packable-told, handed-told}
+use Rattle.oatmist.proofs.FitsWord.{fits-report, fits-told, handed-told}
 use Rattle.oatmist.proofs.oatmist_report.Statement.{statement}
 use Rattle.oatmist.proofs.oatmist_report.Tie as tie
 
 hand-requires : tie.Need-hand-requires
 hand-requires c κs =
     let made = c .before .before .before in
-    packable-told (made .report .result) _ (made .report .ensures .answer-told) (packable-report _ _)
+    fits-told (made .report .result) _ (made .report .ensures .answer-told) (fits-report _ _)
 
 returns : tie.Need-returns
 returns c =

@@ -1,14 +1,14 @@
--- `oatmist::oatmist_restate` meets its contract: the bytes written are told, and the output is what restating left.
+-- `oatmist::oatmist_restate` meets its contract (N9, R13, O5): the bytes written are told, and the output is what restating left.
 -- Assumes nothing.
 use borrow.Author.Needs.{needs}
-use Rattle.oatmist.proofs.Packing.{packable-restate, packable-told, handed-told}
+use Rattle.oatmist.proofs.FitsWord.{fits-restate, fits-told, handed-told}
 use Rattle.oatmist.proofs.oatmist_restate.Statement.{statement}
 use Rattle.oatmist.proofs.oatmist_restate.Tie as tie
 
 hand-requires : tie.Need-hand-requires
 hand-requires c κs =
     let made = c .before .before .before in
-    packable-told (made .restate .result) _ (made .restate .ensures .answer-told) (packable-restate _ _)
+    fits-told (made .restate .result) _ (made .restate .ensures .answer-told) (fits-restate _ _)
 
 returns : tie.Need-returns
 returns c =

@@ -1,14 +1,14 @@
--- `oatmist::oatmist_same_work` meets its contract: whether the two do the same work is handed back.
+-- `oatmist::oatmist_same_work` meets its contract (A1, R14): whether the two do the same work is handed back.
 -- Assumes nothing.
 use borrow.Author.Needs.{needs}
-use Rattle.oatmist.proofs.Packing.{packable-work, packable-told, handed-told}
+use Rattle.oatmist.proofs.FitsWord.{fits-work, fits-told, handed-told}
 use Rattle.oatmist.proofs.oatmist_same_work.Statement.{statement}
 use Rattle.oatmist.proofs.oatmist_same_work.Tie as tie
 
 hand-requires : tie.Need-hand-requires
 hand-requires c κs =
     let told = c .before .same-work in
-    packable-told (told .result) _ (told .ensures) (packable-work _ _)
+    fits-told (told .result) _ (told .ensures) (fits-work _ _)
 
 returns : tie.Need-returns
 returns c =

@@ -1,14 +1,14 @@
--- `oatmist::oatmist_stuck` meets its contract: whether the sheet is stuck is handed back.
+-- `oatmist::oatmist_stuck` meets its contract (A5): whether the sheet is stuck is handed back.
 -- Assumes nothing.
 use borrow.Author.Needs.{needs}
-use Rattle.oatmist.proofs.Packing.{packable-stuck, packable-told, handed-told}
+use Rattle.oatmist.proofs.FitsWord.{fits-stuck, fits-told, handed-told}
 use Rattle.oatmist.proofs.oatmist_stuck.Statement.{statement}
 use Rattle.oatmist.proofs.oatmist_stuck.Tie as tie
 
 hand-requires : tie.Need-hand-requires
 hand-requires c κs =
     let told = c .before .is-stuck in
-    packable-told (told .result) _ (told .ensures) (packable-stuck _)
+    fits-told (told .result) _ (told .ensures) (fits-stuck _)
 
 returns : tie.Need-returns
 returns c =

@@ -1,14 +1,14 @@
--- `oatmist::oatmist_winner` meets its contract: which sheet is leaner is handed back.
+-- `oatmist::oatmist_winner` meets its contract (A3, R14): which sheet is leaner is handed back.
 -- Assumes nothing.
 use borrow.Author.Needs.{needs}
-use Rattle.oatmist.proofs.Packing.{packable-winner, packable-told, handed-told}
+use Rattle.oatmist.proofs.FitsWord.{fits-winner, fits-told, handed-told}
 use Rattle.oatmist.proofs.oatmist_winner.Statement.{statement}
 use Rattle.oatmist.proofs.oatmist_winner.Tie as tie
 
 hand-requires : tie.Need-hand-requires
 hand-requires c κs =
     let told = c .before .winner in
-    packable-told (told .result) _ (told .ensures) (packable-winner _ _)
+    fits-told (told .result) _ (told .ensures) (fits-winner _ _)
 
 returns : tie.Need-returns
 returns c =

@@ -1,4 +1,5 @@
--- `reading::actions_in` meets its contract. The loop's invariant: what is counted, at most 64 a step, and the actions from step k on are all actions.
+-- `reading::actions_in` meets its contract, which serves R9 and A4. The loop's invariant: what is counted, at most 64 a step, and the
+-- actions from step k on are all actions.
 -- Assumes nothing.
 use mathlib.Core.Path.{_≡_, ap, _∙_}
 use mathlib.Core.List.{List}

@@ -1,27 +1,17 @@
--- `reading::alphabets` meets its contract. The loop's invariant: the places passed hold their records' alphabets.
+-- `reading::alphabets` meets its contract (S3). The loop's invariant: the places passed hold their records' alphabets.
 -- The measure is how many records are left. Assumes nothing.
-use mathlib.Core.Path.{_≡_, sym, ap, _∙_}
-use mathlib.Core.Logic.{_⊎_, inl, inr}
+use mathlib.Core.Path.{_≡_, _∙_}
 use mathlib.Core.List.{List}
 use Prim.Native.Nat.{ℕ, _+_, _*_, _-_, _≤_, _<_}
-use native.Mathlib.Nat.{eq-or-lt-of-le}
 use native.Mathlib.Omega.{arith}
-use lib.ListN.{length, getD, set, length-set}
-use lib.Seq.{getD-set-same, getD-set-other}
+use lib.ListN.{length, getD, length-set}
 use borrow.Author.Needs.{needs}
+use Rattle.sets.proofs.Filling.{set-next}
 use Rattle.sheet.specs.Numbers.{field}
 use Rattle.sheet.specs.Layout.{alphabetOf}
 use Rattle.sheet.proofs.Sections.{alphabets-made}
 use Rattle.reading.proofs.alphabets.Statement.{statement}
 use Rattle.reading.proofs.alphabets.Tie as tie
-
-one-more : (f : ℕ → ℕ) (l : List ℕ) (j x : ℕ) → j < length l → x ≡ f j → ((k : ℕ) → k < j → getD l k 0 ≡ f k)
-    → (k : ℕ) → k < j + 1 → getD (set l j x) k 0 ≡ f k
-one-more f l j x fits e h k b = go (eq-or-lt-of-le (omega arith))
-  where
-    go : (k ≡ j) ⊎ (k < j) → getD (set l j x) k 0 ≡ f k
-    go (inl same) = ap (λ (i : ℕ). getD (set l j x) i 0) same ∙ getD-set-same l j x 0 fits ∙ e ∙ ap f (sym same)
-    go (inr less) = getD-set-other l j k x 0 (λ same. omega arith) ∙ h k less
 
 alphabet-field : (b : List ℕ) (j x : ℕ) → x ≡ field (16 * j + 8) 8 b → x ≡ alphabetOf b j
 unfolding alphabetOf
@@ -46,7 +36,7 @@ loop-again c =
     let x = c .number8 .result in (
       omega arith,
       length-set (l .found) (l .j) x ∙ l .inv .1,
-      one-more (alphabetOf b) (l .found) (l .j) x (omega arith) (alphabet-field b (l .j) x (c .number8 .ensures)) (l .inv .2),
+      set-next (alphabetOf b) (l .j) (l .found) x (omega arith) (l .inv .2) (alphabet-field b (l .j) x (c .number8 .ensures)),
     )
 
 returns : tie.Need-returns Inv-loop μ-loop

@@ -1,5 +1,5 @@
--- `reading::read_tables` meets its contract: where the trailer passed, the checkers' answers on the parts are the sheet's refusals 5 to 9, and
--- the alphabets of the records are those of the bytes before the steps.
+-- `reading::read_tables` meets its contract (R5 to R9, O1, S3): where the trailer passed, the checkers' answers on the parts are the
+-- sheet's refusals 5 to 9, and the alphabets of the records are those of the bytes before the steps.
 -- Assumes nothing.
 use mathlib.Core.Path.{_≡_, ap, _∙_}
 use mathlib.Core.Bool.{false}
@@ -19,7 +19,8 @@ use Rattle.answers.specs.declared.Sizes.{Sizes}
 use Rattle.answers.specs.declared.Answer.{Answer}
 use Rattle.answers.specs.declared.Answer.the-variants.{Accepted, Refused}
 use Rattle.answers.specs.Outcomes.{refused, outcomeOf, readOutcome}
-use Rattle.reading.proofs.Passing.{TrailerRead, trailer-read, trailer-then}
+use Rattle.answers.specs.SizesRead.{SizesRead}
+use Rattle.reading.proofs.Passing.{trailer-read, trailer-then}
 use Rattle.reading.proofs.Sections.{records-long, steps-short, alphabets-part, records-told, actions-told, transitions-told, order-told, count-told}
 use Rattle.reading.proofs.read_tables.Statement.{statement}
 use Rattle.reading.proofs.read_tables.Tie as tie
@@ -27,8 +28,8 @@ use Rattle.reading.proofs.read_tables.Tie as tie
 abbrev sheet-at : tie.Start → List ℕ
 sheet-at c = c .args .sheet .now
 
-read-at : (c : tie.Start) → TrailerRead (sheet-at c) (c .args .sizes)
-read-at c = trailer-read (c .pre .0)
+read-at : (c : tie.Start) → SizesRead (sheet-at c) (c .args .sizes)
+read-at c = trailer-read (sheet-at c) (c .args .sizes) (c .pre .0)
 
 -- ---- 5
 
@@ -164,7 +165,7 @@ returns-6 c =
     let s = filled-at a in
     let e = too-many k ∙ ltb-false mostInSteps (k .actions-in .result) .1 (c .if5 .left) in
     rw (records-passed (right-at (u .before)), actions-passed u, transitions-passed t, order-passed o, e)
-    (s .pre .0 ∙ ap (readOutcome (sheet-at s)) (trailer-then (read-at s) accepted), λ f. alphabets-part (read-at s) (a .alphabets .ensures _))
+    (s .pre .0 ∙ ap (readOutcome (sheet-at s)) (trailer-then (sheet-at s) (s .args .sizes) (s .pre .0) accepted), λ f. alphabets-part (read-at s) (a .alphabets .ensures _))
 
 pub read-tables-spec : {M : Type 1} → statement M
 read-tables-spec =

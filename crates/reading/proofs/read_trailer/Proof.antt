@@ -1,4 +1,4 @@
--- `reading::read_trailer` meets its contract: its tests, in their order, are the refusals 1 to 4.
+-- `reading::read_trailer` meets its contract (R1 to R4, O1): its tests, in their order, are the refusals 1 to 4.
 -- Assumes nothing.
 use mathlib.Core.Path.{_≡_, sym, ap, _∙_}
 use mathlib.Core.Bool.{false}

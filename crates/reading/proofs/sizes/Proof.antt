@@ -1,4 +1,4 @@
--- `reading::sizes` meets its contract: the numbers are those that stand in the trailer.
+-- `reading::sizes` meets its contract (S6): the numbers are those that stand in the trailer.
 -- Assumes nothing.
 use mathlib.Core.Path.{_≡_}
 use mathlib.Core.List.{List, [], _∷_}

@@ -12,7 +12,7 @@ use Rattle.sheet.specs.Layout.{componentCount, actionCount, closing, mark}
 use Rattle.sheet.specs.Refusals.{outside, sameNumbers, markWrong, countsWrong}
 use Rattle.sheet.proofs.Numbers.{field-one}
 
--- ---- 2
+-- ---- the closing mark (R2)
 
 either : (p q : Bool) → (not p || not q) ≡ not (p && (q && true))
 either true true = refl
@@ -42,7 +42,7 @@ module _ (b : List ℕ) (two : 2 ≤ length b) where
   pub mark-tested : (not (eqb (getD b (length b - 2) 0) 0x46) || not (eqb (getD b (length b - 1) 0) 0x53)) ≡ markWrong b
   mark-tested = either (eqb (getD b (length b - 2) 0) 0x46) (eqb (getD b (length b - 1) 0) 0x53) ∙ sym mark-read
 
--- ---- 3
+-- ---- the counts of components and actions (R3, S6)
 
 pub components-read : (b : List ℕ) → componentCount b ≡ getD b (length b - 4) 0
 unfolding componentCount

@@ -1,4 +1,5 @@
--- The parts of a section, walked from the front: what is left of them at part k is that part and what is left behind it.
+-- The parts of a section, such as the four bytes of each transition (S4), walked from the front: what is left of them at part k is that
+-- part and what is left behind it.
 -- Assumes nothing.
 use mathlib.Core.Path.{_≡_, sym, ap, ap₂, _∙_}
 use mathlib.Core.List.{List, [], _∷_}

@@ -8,7 +8,7 @@ use lib.ListN.{getD}
 use Rattle.sets.specs.Lists.{anyOf, below}
 use Rattle.sets.specs.Bits.{member}
 
--- the set has just what the first n sets of the list have
+-- the set has just what the first n sets of the list have (R6)
 pub record UnionOfAlphabets (l : List ℕ) (n all : ℕ) : Type 0 where
   pub exact : (a : ℕ) → member all a ≡ anyOf (λ j. member (getD l j 0) a) (below n)
 

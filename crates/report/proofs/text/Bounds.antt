@@ -1,25 +1,26 @@
 -- P1 to P5: how long the text of a sheet can be: each action and state takes three bytes, each other number at most twenty-one.
 -- Assumes nothing.
 use mathlib.Core.Path.{refl}
-use mathlib.Core.Bool.{Bool, true, false}
 use mathlib.Core.List.{List, [], _∷_, _++_, map, List·Memᴰ, List·Memᴰ·head, List·Memᴰ·tail}
 use Prim.Native.Nat.{ℕ, zero, suc, _+_, _*_, _/_, _%_, _^_, _≤_, _<_}
 use native.Mathlib.Nat.{pow-suc, mul-suc}
 use native.Mathlib.Omega.{arith}
 use lib.ListN.{length, length-append}
-use Rattle.sets.specs.Lists.{appendAll, below, upward, keep}
-use Rattle.sets.specs.Bits.{member, membersFrom, members}
-use Rattle.sets.proofs.Members.{members-mem}
+use Rattle.sets.specs.Lists.{appendAll, below, upward}
+use Rattle.sets.specs.Bits.{members}
+use Rattle.sets.proofs.Members.{members-mem, members-few}
 use Rattle.systems.specs.Checking.{flat}
 use Rattle.sheet.specs.Bounds.{mostComponents}
 use Rattle.answers.specs.Report.{digitsBefore, part, line, stepWord, endWord, stepTexts, endTexts}
 
--- ---- numbers
+-- ---- numbers (P1)
 
--- k digits at most j below 10 ^ j
+-- `digitsBefore k x t` writes the digits of x in front of the text t, with k places at most. `Few k` says of it: where x is below 10 ^ j,
+-- it writes at most j digits.
 abbrev Few : ℕ → Type 0
 Few k = (j x : ℕ) (t : List ℕ) → x < 10 ^ j → length (digitsBefore k x t) ≤ j + length t
 
+-- what holds with k places holds with one place more
 few-more : (k : ℕ) → Few k → Few (suc k)
 few-more k before j zero t h = omega arith
 few-more k before j (suc x) t h = by-power j h
@@ -31,15 +32,17 @@ few-more k before j (suc x) t h = by-power j h
         let r = before j (suc x / 10) ((48 + suc x % 10) ∷ t) (omega arith) in
         omega arith
 
+-- so it holds with any number of places
 digits-few : (k : ℕ) → Few k
 digits-few zero j x t h = omega arith
 digits-few (suc k) j x t h = few-more k (digits-few k) j x t h
 
--- with a space before it, in at most k digits
+-- a number below 10 ^ k has at most k digits; with the space in front of it, it takes one byte more
 part-few : (k x : ℕ) → 0 < k → x < 10 ^ k → length (part x) ≤ suc k
 part-few k zero some h = omega arith
 part-few k (suc x) some h = let r = digits-few (suc x) k (suc x) [] h in omega arith
 
+-- the same of the numbers of a list, one behind another
 parts-few : (k : ℕ) → 0 < k → (xs : List ℕ) → ((x : ℕ) → List·Memᴰ x xs → x < 10 ^ k) → length (appendAll (map part xs)) ≤ suc k * length xs
 parts-few k some [] h = omega arith
 parts-few k some (x ∷ xs) h =
@@ -49,7 +52,7 @@ parts-few k some (x ∷ xs) h =
     let e = mul-suc (suc k) (length xs) in
     omega arith
 
--- each has at most 20 digits
+-- each number of the list has at most 20 digits
 abbrev pub In20 : List ℕ → Type 0
 In20 [] = Unit {0}
 In20 (x ∷ xs) = (x < 10 ^ 20) × In20 xs
@@ -65,23 +68,10 @@ line-most word xs h =
     let r = parts-few 20 (omega arith) xs (in20-each xs h) in
     omega arith
 
--- ---- sets
+-- ---- sets (P4, P5)
 
 members-text : (x : ℕ) → length (appendAll (map part (members x))) ≤ 3 * length (members x)
 members-text x = parts-few 2 (omega arith) (members x) (λ i m. let l = members-mem x i .0 m .0 in omega arith)
-
-keep-few : (c : Bool) (i k : ℕ) (l : List ℕ) → length l ≤ k → length (keep c i l) ≤ suc k
-keep-few true i k l h = omega arith
-keep-few false i k l h = omega arith
-
-from-few : (i k x : ℕ) → length (membersFrom i k x) ≤ k
-unfolding membersFrom
-from-few i zero x = omega arith
-from-few i (suc k) x = keep-few (member x i) i k (membersFrom (suc i) k x) (from-few (suc i) k x)
-
-members-few : (x : ℕ) → length (members x) ≤ 64
-unfolding members
-members-few x = from-few 0 64 x
 
 step-line : (x : ℕ) → length (line stepWord (members x)) ≤ 5 + 3 * length (members x)
 step-line x =
@@ -99,7 +89,7 @@ end-line j x h =
     let f = members-few x in
     omega arith
 
--- ---- lines
+-- ---- lines of steps and of end sets (P4, P5)
 
 pub steps-most : (xs : List ℕ) → length (stepTexts xs) ≤ 5 * length xs + 3 * length (flat xs)
 steps-most [] = omega arith

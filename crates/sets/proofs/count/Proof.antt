@@ -1,4 +1,4 @@
--- `sets::count` meets its contract: the set bits of a number below 2 ^ 64 are its elements, at most 64.
+-- `sets::count` meets its contract (S1, F7): the set bits of a number below 2 ^ 64 are its elements, at most 64.
 -- Assumes nothing.
 use lib.Count.{ones-le}
 use Rattle.sets.proofs.Members.{ones-members}

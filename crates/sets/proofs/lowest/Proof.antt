@@ -1,4 +1,5 @@
--- `sets::lowest` meets its contract: a number that is not 0 and below 2 ^ 64 has fewer than 64 trailing zeros, and they are its lowest element.
+-- `sets::lowest` meets its contract (S1, F7): a number that is not 0 and below 2 ^ 64 has fewer than 64 trailing zeros, and they are its
+-- lowest element.
 -- Assumes nothing.
 use Rattle.sets.proofs.LowestBit.{lowest-lt, members-lowest}
 use Rattle.sets.proofs.lowest.Statement.{statement}

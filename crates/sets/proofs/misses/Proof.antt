@@ -1,4 +1,4 @@
--- `sets::misses` meets its contract: a number has an element at or above k exactly when it is at least 2 ^ k.
+-- `sets::misses` meets its contract, which serves R5 and R10: a number has an element at or above k exactly when it is at least 2 ^ k.
 -- Assumes nothing.
 use mathlib.Core.Path.{_≡_, sym, _∙_, subst}
 use mathlib.Core.Logic.{_≢_, inl, inr}

@@ -1,4 +1,4 @@
--- `sets::with` meets its contract: 1 shifted by less than 64 places loses no bit.
+-- `sets::with` meets its contract (S1): 1 shifted by less than 64 places loses no bit.
 -- Assumes nothing.
 use mathlib.Core.Path.{ap, _∙_}
 use Prim.Native.Nat.{ℕ}

@@ -1,4 +1,4 @@
--- `sets::without_lowest` meets its contract: it is at most one less than the set, so below it.
+-- `sets::without_lowest` meets its contract, which serves S1: it is at most one less than the set, so below it.
 -- Assumes nothing.
 use mathlib.Core.Path.{refl}
 use borrow.Author.Needs.{needs}

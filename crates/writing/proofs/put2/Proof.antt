@@ -1,4 +1,4 @@
--- `writing::put2` meets its contract: the two bytes are stored one behind the other.
+-- `writing::put2` meets its contract (S1): the two bytes are stored one behind the other.
 -- Assumes nothing.
 use mathlib.Core.Path.{refl}
 use mathlib.Core.List.{[], _∷_}

@@ -1,4 +1,4 @@
--- `writing::write_counts` meets its contract: four bytes are stored one behind another.
+-- `writing::write_counts` meets its contract (S6): four bytes are stored one behind another.
 -- Assumes nothing.
 use mathlib.Core.Path.{refl}
 use mathlib.Core.List.{[], _∷_}

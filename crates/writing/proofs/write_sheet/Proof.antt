@@ -1,4 +1,4 @@
--- `writing::write_sheet` meets its contract: behind the copied bytes stands what the writer of the steps left in the rest.
+-- `writing::write_sheet` meets its contract (S2, N9): behind the copied bytes stands what the writer of the steps left in the rest.
 -- Assumes nothing.
 use mathlib.Core.Path.{refl, ap, _∙_}
 use mathlib.Core.List.{List, _++_}

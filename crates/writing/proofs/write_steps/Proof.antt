@@ -1,4 +1,4 @@
--- `writing::write_steps` meets its contract. The loop's invariant: the steps before `k` stand over what was there.
+-- `writing::write_steps` meets its contract (S5, S6). The loop's invariant: the steps before `k` stand over what was there.
 -- The measure is the number of steps left. Assumes nothing.
 use mathlib.Core.Path.{_≡_, refl, sym, ap, _∙_}
 use mathlib.Core.List.{List}

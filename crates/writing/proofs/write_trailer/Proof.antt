@@ -1,4 +1,5 @@
--- `writing::write_trailer` meets its contract: the three offsets and then the counts, each written in the rest that the one before left.
+-- `writing::write_trailer` meets its contract (S6): the three offsets and then the counts, each written in the rest that the one before
+-- left.
 -- Assumes nothing.
 use mathlib.Core.Path.{refl, ap, _∙_}
 use mathlib.Core.List.{_∷_, _++_}

@@ -1,4 +1,5 @@
--- `both::check_both` meets its contract: the first sheet's refusal, else the second's, else 14, else the sizes that both have.
+-- `both::check_both` meets its contract (O6, O7, R14): the first sheet's refusal, else the second's, else 14, else the sizes that both
+-- have.
 -- Assumes nothing.
 use mathlib.Core.Path.{sym, _∙_}
 use mathlib.Core.List.{List}

@@ -1,4 +1,4 @@
--- `both::check_second` meets its contract: an accepted sheet tells what it told, and a refusal tells sheet 1.
+-- `both::check_second` meets its contract (O7): an accepted sheet tells what it told, and a refusal tells sheet 1.
 -- Assumes nothing.
 use Rattle.sheet.specs.Verdict.{verdict}
 use Rattle.comparing.proofs.both.Refusals.{second-accepted, second-refused}

@@ -1,4 +1,4 @@
--- `restated::same_restated` meets its contract: the packed steps of the two sheets compared.
+-- `restated::same_restated` meets its contract, which serves A1: the packed steps of the two sheets compared.
 -- Assumes nothing.
 use mathlib.Core.Path.{sym, ap, ap₂, _∙_}
 use lib.ListN.{length}

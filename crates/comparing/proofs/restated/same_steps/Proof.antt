@@ -1,4 +1,5 @@
--- `restated::same_steps` meets its contract: two step lists are the same when they are as long as each other and nothing differs below the end.
+-- `restated::same_steps` meets its contract, which serves A1: two step lists are the same when they are as long as each other and nothing
+-- differs below the end.
 -- Assumes nothing.
 use Prim.Native.Nat.{_-_}
 use native.Mathlib.Omega.{arith}

@@ -1,4 +1,4 @@
--- `restated::second_leaner` meets its contract: the two counts compared.
+-- `restated::second_leaner` meets its contract, which serves A2 and A3: the two counts compared.
 -- Assumes nothing.
 use mathlib.Core.Path.{ap₂}
 use lib.Dec.{ltb}

@@ -1,4 +1,4 @@
--- `tables::differ` meets its contract: one number that differs tells the tables apart, else the bytes before S do.
+-- `tables::differ` meets its contract (R14): one number that differs tells the tables apart, else the bytes before S do.
 -- Assumes nothing.
 use mathlib.Core.Path.{refl, ap, _∙_}
 use mathlib.Core.Bool.{not}

@@ -1,4 +1,5 @@
--- `tables::same_bytes` meets its contract: two byte strings are the same when they are as long as each other and nothing differs below the end.
+-- `tables::same_bytes` meets its contract, which serves R14: two byte strings are the same when they are as long as each other and nothing
+-- differs below the end.
 -- Assumes nothing.
 use Prim.Native.Nat.{_-_}
 use native.Mathlib.Omega.{arith}

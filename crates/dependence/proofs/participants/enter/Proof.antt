@@ -1,5 +1,5 @@
--- `participants::enter` meets its contract. The loop's invariant: once the actions that are left have been entered, all have.
--- The measure is the set that is left, which falls. Assumes nothing.
+-- `participants::enter` meets its contract, which serves N3. The loop's invariant: once the actions that are left have been entered, all
+-- have. The measure is the set that is left, which falls. Assumes nothing.
 use mathlib.Core.Path.{_≡_, sym, ap, _∙_}
 use mathlib.Core.List.{List, _∷_}
 use Prim.Native.Nat.{ℕ}

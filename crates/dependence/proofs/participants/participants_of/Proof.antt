@@ -1,4 +1,4 @@
--- `participants::participants_of` meets its contract. The loop's invariant: the components below j have been entered.
+-- `participants::participants_of` meets its contract (N3). The loop's invariant: the components below j have been entered.
 -- Assumes nothing.
 use mathlib.Core.Path.{_≡_, sym, ap, subst, _∙_}
 use Prim.Native.Nat.{ℕ, _-_, _≤_}

@@ -1,4 +1,4 @@
--- `process::actions_met` meets its contract. The loop's invariant: the union so far is that of the first j alphabets.
+-- `process::actions_met` meets its contract, which serves N6. The loop's invariant: the union so far is that of the first j alphabets.
 -- The measure is the number of alphabets left. Assumes nothing.
 use mathlib.Core.Path.{_≡_, subst}
 use Prim.Native.Nat.{ℕ, _≤_, _-_}

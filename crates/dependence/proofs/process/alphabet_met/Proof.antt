@@ -1,4 +1,4 @@
--- `process::alphabet_met` meets its contract: two sets share an action exactly when their intersection is not 0.
+-- `process::alphabet_met` meets its contract, which serves N6: two sets share an action exactly when their intersection is not 0.
 -- Assumes nothing.
 use Rattle.dependence.proofs.process.Meeting.{where-none, where-some}
 use Rattle.dependence.proofs.process.alphabet_met.Statement.{statement}

@@ -1,4 +1,4 @@
--- `process::first_offence` meets its contract. The loop's invariant: no step before k offends, so what is left from k on decides.
+-- `process::first_offence` meets its contract (N7). The loop's invariant: no step before k offends, so what is left from k on decides.
 -- The measure is the number of steps left. Assumes nothing.
 use mathlib.Core.Path.{sym, ap}
 use mathlib.Core.List.{map}

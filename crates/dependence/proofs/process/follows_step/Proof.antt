@@ -1,4 +1,5 @@
--- `process::follows_step` meets its contract: every action of the step is to be in the union of the alphabets that have an action of the step before.
+-- `process::follows_step` meets its contract (N6): every action of the step is to be in the union of the alphabets that have an action of
+-- the step before.
 -- Assumes nothing.
 use Rattle.dependence.proofs.process.Meeting.{follows-union}
 use borrow.Author.Needs.{needs}

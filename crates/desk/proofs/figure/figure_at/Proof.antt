@@ -1,4 +1,4 @@
--- `figure::figure_at` meets its contract: the figure with the steps packed here.
+-- `figure::figure_at` meets its contract (A4): the figure with the steps packed here.
 -- Assumes nothing.
 use borrow.Author.Needs.{needs}
 use Rattle.desk.proofs.figure.figure_at.Statement.{statement}

@@ -1,4 +1,4 @@
--- `figure::figure_of` meets its contract: the figure of an accepted sheet, else the sheet's refusal.
+-- `figure::figure_of` meets its contract (A4): the figure of an accepted sheet, else the sheet's refusal.
 -- Assumes nothing.
 use mathlib.Core.Path.{_≡_, ap}
 use mathlib.Core.List.{List}

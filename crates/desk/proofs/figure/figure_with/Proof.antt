@@ -1,4 +1,4 @@
--- `figure::figure_with` meets its contract: the actions of the section over the restated steps.
+-- `figure::figure_with` meets its contract (A4): the actions of the section over the restated steps.
 -- Assumes nothing.
 use mathlib.Core.Path.{_∙_}
 use native.Mathlib.Omega.{arith}

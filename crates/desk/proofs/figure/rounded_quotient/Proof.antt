@@ -1,4 +1,4 @@
--- `figure::rounded_quotient` meets its contract: the quotient of the definition, by cases on the steps.
+-- `figure::rounded_quotient` meets its contract (A4): the quotient of the definition, by cases on the steps.
 -- Assumes nothing.
 use Rattle.desk.proofs.figure.Figures.{quotient-some}
 use borrow.Author.Needs.{needs}

@@ -1,4 +1,4 @@
--- `process::offence_at` meets its contract: the section read is that of the sheet, and the array has its alphabets.
+-- `process::offence_at` meets its contract (N7): the section read is that of the sheet, and the array has its alphabets.
 -- Assumes nothing.
 use mathlib.Core.Path.{ap, _∙_}
 use mathlib.Core.List.{List, map}

@@ -1,4 +1,4 @@
--- `process::process_check` meets its contract: the first offence among the steps of an accepted sheet, else the sheet's refusal.
+-- `process::process_check` meets its contract (N7): the first offence among the steps of an accepted sheet, else the sheet's refusal.
 -- Assumes nothing.
 use mathlib.Core.Path.{_≡_, ap}
 use mathlib.Core.List.{List, map}

@@ -1,4 +1,4 @@
--- `restate::pack_sheet` meets its contract: the components of each action, found by the alphabets, are what `pack_steps` asks.
+-- `restate::pack_sheet` meets its contract (N8): the components of each action, found by the alphabets, are what `pack_steps` asks.
 -- Assumes nothing.
 use borrow.Author.Needs.{needs}
 use Rattle.sheet.specs.Layout.{tables}

@@ -1,4 +1,4 @@
--- `restate::pack_steps` meets its contract: the steps of an accepted sheet packed are its restated steps.
+-- `restate::pack_steps` meets its contract (N8): the steps of an accepted sheet packed are its restated steps.
 -- Assumes nothing.
 use mathlib.Core.Path.{ap, _∙_}
 use Prim.Native.Nat.{ℕ}

@@ -1,5 +1,5 @@
--- `restate::restate` meets its contract: the refusal of the trailer or of the tables and steps, with the output as it came; else what the
--- accepted sheet is restated as.
+-- `restate::restate` meets its contract (N8, N9, R13, O5): the refusal of the trailer or of the tables and steps, with the output as it
+-- came; else what the accepted sheet is restated as.
 -- Assumes nothing.
 use mathlib.Core.Path.{refl, sym, ap, _∙_}
 use borrow.Author.Needs.{needs}

@@ -1,5 +1,5 @@
--- `restate::write_restated` meets its contract: the packed steps make the restated sheet, written where it fits; else the output stays
--- as it came.
+-- `restate::write_restated` meets its contract (N8, N9, R13, O5): the packed steps make the restated sheet, written where it fits; else the
+-- output stays as it came.
 -- Assumes nothing.
 use native.Mathlib.Omega.{arith}
 use lib.ListN.{length-take}

@@ -1,4 +1,4 @@
--- `stuck::is_stuck` meets its contract: whether an accepted sheet is stuck, else the sheet's refusal.
+-- `stuck::is_stuck` meets its contract (A5): whether an accepted sheet is stuck, else the sheet's refusal.
 -- Assumes nothing.
 use mathlib.Core.Path.{_≡_, ap, _∙_}
 use mathlib.Core.Bool.{Bool}

@@ -1,4 +1,4 @@
--- `stuck::stuck_at` meets its contract: the array holds the end sets, and every action is tried in them.
+-- `stuck::stuck_at` meets its contract (A5): the array holds the end sets, and every action is tried in them.
 -- Assumes nothing.
 use mathlib.Core.Path.{sym, _∙_}
 use native.Mathlib.Omega.{arith}
@@ -25,7 +25,7 @@ stuck-from-requires c κs =
     let z = s .args .sizes in
     let l = s .args .sets .now in (
       front-known b z (s .pre .0) l (s .pre .1),
-      s .pre .0 .m-high,
+      s .pre .0 .sizes-read .m-high,
       alphabets-front b z (s .pre .0) (read .alphabets-of .last .1 .1 .0) (read .alphabets-of .ensures),
       end-held b z (s .pre .0) l (s .pre .1),
     )

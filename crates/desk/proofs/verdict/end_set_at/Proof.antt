@@ -1,4 +1,4 @@
--- `verdict::end_set_at` meets its contract: the test is the definition's.
+-- `verdict::end_set_at` meets its contract (E5): the test is the definition's.
 -- Assumes nothing.
 use mathlib.Core.Path.{_≡_}
 use mathlib.Core.List.{List}

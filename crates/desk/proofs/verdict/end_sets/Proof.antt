@@ -1,4 +1,4 @@
--- `verdict::end_sets` meets its contract: beside a refusal zeros, else the sets that judging left.
+-- `verdict::end_sets` meets its contract (E5): beside a refusal zeros, else the sets that judging left.
 -- Assumes nothing.
 use mathlib.Core.Path.{refl, sym, ap, _∙_}
 use mathlib.Core.List.{List}
@@ -44,7 +44,7 @@ first-sets-requires : tie.Need-first-sets-requires
 first-sets-requires c κs =
     let k = c .before in
     let size = judged-at k .judge .ensures .size in
-    let few = accepted-at k .n-high in
+    let few = accepted-at k .sizes-read .n-high in
     omega arith
 
 returns-2 : tie.Need-returns-2

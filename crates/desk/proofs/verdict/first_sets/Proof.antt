@@ -1,4 +1,4 @@
--- `verdict::first_sets` meets its contract: the array is filled from the front to its end.
+-- `verdict::first_sets` meets its contract (E5): the array is filled from the front to its end.
 -- Assumes nothing.
 use mathlib.Core.Path.{_≡_, refl, subst}
 use Prim.Native.Nat.{ℕ, _-_, _≤_}

@@ -1,15 +1,13 @@
--- `verdict::judge` meets its contract: the refusal of the trailer, or what judging the tables answers and leaves.
+-- `verdict::judge` meets its contract (O1, E5): the refusal of the trailer, or what judging the tables answers and leaves.
 -- Assumes nothing.
-use mathlib.Core.Path.{refl, sym, ap, subst, _∙_}
+use mathlib.Core.Path.{refl, sym, ap, _∙_}
 use mathlib.Core.List.{List}
 use Prim.Native.Nat.{ℕ}
 use borrow.Author.Needs.{needs}
 use Rattle.sheet.specs.Verdict.{accepted, trailerVerdict}
 use Rattle.answers.specs.declared.Sizes.{Sizes}
-use Rattle.answers.specs.declared.Answer.{Answer}
 use Rattle.answers.specs.Outcomes.{outcomeOf}
 use Rattle.reading.specs.Reading.{TrailerPassed}
-use Rattle.desk.specs.Left.{EndsLeft}
 use Rattle.desk.proofs.verdict.Judging.{refused-ends, trailer-stopped, trailer-verdict, trailer-part, ends-part}
 use Rattle.desk.proofs.verdict.judge.Statement.{statement}
 use Rattle.desk.proofs.verdict.judge.Tie as tie
@@ -46,10 +44,7 @@ returns-2 : tie.Need-returns-2
 returns-2 c =
     let made = c .before .before .before .before in
     let k = made .before .before .before .before in
-    let b = sheet-at (read-at k) in
-    let held = made .judge-tables .last .1 .1 .1 .0 in
-    subst (λ (a : Answer). EndsLeft b a held) (sym (c .refusal-or-sizes .ensures))
-    (ends-part b (sizes-at k) (passed-at k) (made .judge-tables .result) held (made .judge-tables .ensures .0))
+    ends-part (sheet-at (read-at k)) (sizes-at k) (passed-at k) (made .judge-tables .ensures .0) (c .refusal-or-sizes .ensures)
 
 pub judge-spec : {M : Type 1} → statement M
 judge-spec =

@@ -1,4 +1,5 @@
--- `verdict::judge_tables` meets its contract: the refusal of the tables, or what the run over the parts of the sheet answers and leaves.
+-- `verdict::judge_tables` meets its contract (O1, E5, N3): the refusal of the tables, or what the run over the parts of the sheet answers
+-- and leaves.
 -- Assumes nothing.
 use mathlib.Core.Path.{_≡_, sym, ap, _∙_}
 use mathlib.Core.List.{List}
@@ -7,12 +8,14 @@ use Prim.Native.Nat.{ℕ, _+_, _≤_}
 use lib.ListN.{length}
 use lib.Seq.{length-take-le}
 use borrow.Author.Needs.{needs}
+use Rattle.sheet.specs.Bounds.{trailerSize}
 use Rattle.sheet.specs.Limits.{InLimits}
 use Rattle.sheet.specs.Verdict.{accepted, tablesVerdict}
 use Rattle.answers.specs.declared.Sizes.{Sizes}
 use Rattle.answers.specs.declared.Answer.the-variants.{Accepted as AcceptedAnswer}
 use Rattle.answers.specs.Outcomes.{outcomeOf, readOutcome}
 use Rattle.desk.specs.Left.{ParticipantsLeft}
+use Rattle.reading.proofs.Passing.{trailer-read}
 use Rattle.machine.proofs.Running.{front-checked, section-short}
 use Rattle.desk.proofs.verdict.Judging.{refused-ends, refused-participants, tables-stopped, tables-verdict, tables-told-accepted, known-sizes, known-told, read-limits, run-answered, run-participants}
 use Rattle.desk.proofs.verdict.judge_tables.Statement.{statement}
@@ -36,34 +39,30 @@ returns c =
 
 -- ---- none of 5 to 9 holds
 
-abbrev read-at : tie.After-known-told → tie.After-read-tables
-read-at c = c .before .before .before .before
+abbrev read-at : tie.After-enum-told → tie.After-read-tables
+read-at c = c .before .before .before
 
-abbrev sizes-at : tie.After-known-told → Sizes
+abbrev sizes-at : tie.After-enum-told → Sizes
 sizes-at c = start-at (read-at c) .args .sizes
 
 -- the tables tell the sizes that the trailer told
-told-at : (c : tie.After-known-told)
+told-at : (c : tie.After-enum-told)
     → outcomeOf (AcceptedAnswer (sizes-at c)) ≡ readOutcome (sheet-at (read-at c)) (tablesVerdict (sheet-at (read-at c)) accepted)
 told-at c =
-    known-told (sheet-at (read-at c)) (sizes-at c) (start-at (read-at c) .pre .0) (c .before .read .given .0 .0)
-    (ap outcomeOf (sym (c .before .read .given .1)) ∙ read-at c .read-tables .ensures .0)
+    known-told (sheet-at (read-at c)) (sizes-at c) (start-at (read-at c) .pre .0) (c .enum-told .given .0 .0)
+    (ap outcomeOf (sym (c .enum-told .given .1)) ∙ read-at c .read-tables .ensures .0)
 
-same-at : (c : tie.After-known-told) → c .before .read .given .0 .0 ≡ sizes-at c
+same-at : (c : tie.After-enum-told) → c .enum-told .given .0 .0 ≡ sizes-at c
 same-at c =
-    known-sizes (sheet-at (read-at c)) (sizes-at c) (start-at (read-at c) .pre .0) (c .before .read .given .0 .0)
-    (ap outcomeOf (sym (c .before .read .given .1)) ∙ read-at c .read-tables .ensures .0)
+    known-sizes (sheet-at (read-at c)) (sizes-at c) (start-at (read-at c) .pre .0) (c .enum-told .given .0 .0)
+    (ap outcomeOf (sym (c .enum-told .given .1)) ∙ read-at c .read-tables .ensures .0)
 
-limits-at : (c : tie.After-known-told) → InLimits (sheet-at (read-at c))
+limits-at : (c : tie.After-enum-told) → InLimits (sheet-at (read-at c))
 limits-at c = read-limits (sheet-at (read-at c)) (sizes-at c) (start-at (read-at c) .pre .0) (sizes-at c) (told-at c)
 
 -- where the steps begin, before the trailer
-steps-at : (c : tie.After-known-told) → sizes-at c .s + 10 ≤ length (sheet-at (read-at c))
-steps-at c =
-    let l = limits-at c in
-    let last = l .trailer-last .2 in
-    let e = tables-told-accepted (sheet-at (read-at c)) (sizes-at c) (start-at (read-at c) .pre .0) (sizes-at c) (told-at c) .4 in
-    omega arith
+steps-at : (c : tie.After-enum-told) → sizes-at c .s + trailerSize ≤ length (sheet-at (read-at c))
+steps-at c = trailer-read (sheet-at (read-at c)) (sizes-at c) (start-at (read-at c) .pre .0) .trailer-last
 
 slice-aggregate-run-from-start : tie.Need-slice-aggregate-run-from-start
 slice-aggregate-run-from-start c =
@@ -85,13 +84,13 @@ run-from-start-requires c κs =
       front-checked b (z .n) (z .m) (z .s) (told .1) (told .2) (told .4) (limits-at k),
       rw (c .before .before .before .step-section .ensures) (section-short b (z .s) (told .4) (limits-at k)),
       s .pre .2,
-      r .read-tables .ensures .1 (k .before .read .given .1 ∙ ap AcceptedAnswer (same-at k)),
+      r .read-tables .ensures .1 (k .enum-told .given .1 ∙ ap AcceptedAnswer (same-at k)),
       s .pre .1,
     )
 
 -- ---- after the run
 
-abbrev known-at : tie.After-run-from-start → tie.After-known-told
+abbrev known-at : tie.After-run-from-start → tie.After-enum-told
 known-at c = c .before .before .before .before .before .before
 
 participants-left : (c : tie.After-run-from-start)

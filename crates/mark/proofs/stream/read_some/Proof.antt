@@ -1,4 +1,5 @@
--- `stream::read_some` meets its contract: each read is handed the whole room. The measure is the number of turns that are left.
+-- `stream::read_some` meets its contract, which serves P1: each read is handed the whole room. The measure is the number of turns that are
+-- left.
 -- Assumes nothing.
 use Prim.Native.Nat.{ℕ}
 use mathlib.Core.Path.{_≡_, sym, subst}

@@ -1,4 +1,5 @@
--- `stream::read_to_end` meets its contract: no more bytes came than there is room for. The measure is the room that is left.
+-- `stream::read_to_end` meets its contract, which serves P1: no more bytes came than there is room for. The measure is the room that is
+-- left.
 -- Assumes nothing.
 use Prim.Native.Nat.{_≤_, _-_}
 use mathlib.Core.Path.{_≡_}

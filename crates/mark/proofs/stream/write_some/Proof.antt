@@ -1,4 +1,5 @@
--- `stream::write_some` meets its contract: each write is handed the whole text. The measure is the number of turns that are left.
+-- `stream::write_some` meets its contract, which serves P1: each write is handed the whole text. The measure is the number of turns that
+-- are left.
 -- Assumes nothing.
 use borrow.Author.Needs.{needs}
 use Rattle.mark.proofs.stream.write_some.Statement.{statement}

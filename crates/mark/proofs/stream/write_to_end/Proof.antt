@@ -1,7 +1,6 @@
--- `stream::write_to_end` meets its contract. The measure is the number of bytes that are still to be written.
+-- `stream::write_to_end` meets its contract, which serves P1. The measure is the number of bytes that are still to be written.
 -- Assumes nothing.
 use Prim.Native.Nat.{_≤_, _-_}
-use mathlib.Core.Path.{_≡_}
 use lib.ListN.{length}
 use native.Mathlib.Omega.{arith}
 use borrow.Author.Needs.{needs}

@@ -1,5 +1,5 @@
--- `levels::highest` meets its contract. The loop's invariant: the larger of `at` and the entries of the components that are left is
--- what is to be given back. The measure is the set that is left, which falls. Assumes nothing.
+-- `levels::highest` meets its contract, which serves N8. The loop's invariant: the larger of `at` and the entries of the components that
+-- are left is what is to be given back. The measure is the set that is left, which falls. Assumes nothing.
 use mathlib.Core.Path.{_≡_, refl, sym, ap, _∙_}
 use mathlib.Core.List.{_∷_}
 use Prim.Native.Nat.{ℕ, _^_, _<_, max}

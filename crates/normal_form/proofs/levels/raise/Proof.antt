@@ -1,4 +1,4 @@
--- `levels::raise` meets its contract. The loop's invariant: once the components that are left have been marked, all have.
+-- `levels::raise` meets its contract, which serves N8. The loop's invariant: once the components that are left have been marked, all have.
 -- The measure is the set that is left, which falls. Assumes nothing.
 use mathlib.Core.Path.{_≡_, sym, ap, _∙_}
 use mathlib.Core.List.{List, _∷_}

@@ -1,4 +1,4 @@
--- `placing::place` meets its contract: the action's level is below the room, and the two arrays then show the action placed.
+-- `placing::place` meets its contract (N8): the action's level is below the room, and the two arrays then show the action placed.
 -- Assumes nothing.
 use mathlib.Core.Path.{_≡_, ap}
 use Prim.Native.Nat.{_<_}

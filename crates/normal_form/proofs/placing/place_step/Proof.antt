@@ -1,4 +1,4 @@
--- `placing::place_step` meets its contract. The loop's invariant: the actions of the set that is left are still to be placed.
+-- `placing::place_step` meets its contract (N8). The loop's invariant: the actions of the set that is left are still to be placed.
 -- The measure is that set, which falls. Assumes nothing.
 use mathlib.Core.Path.{sym, ap, _∙_}
 use mathlib.Core.List.{[], _∷_}

@@ -1,9 +1,10 @@
--- `convention::fill` meets its contract: the values stand in front as far as they were copied, and the loop ends with the shorter of both.
+-- `convention::fill` meets its contract (D1, C1): the values stand in front as far as they were copied, and the loop ends with the shorter
+-- of both.
 -- Assumes nothing.
 use Prim.Native.Nat.{_-_}
 use native.Mathlib.Omega.{arith}
 use borrow.Author.Needs.{needs}
-use Rattle.oatmist.proofs.convention.Copying.{CopiedUpTo, copied-none, copied-more, copied-all}
+use Rattle.sets.proofs.Filling.{CopiedUpTo, copied-none, copied-more, copied-all}
 use Rattle.oatmist.proofs.convention.fill.Statement.{statement}
 use Rattle.oatmist.proofs.convention.fill.Tie as tie
 

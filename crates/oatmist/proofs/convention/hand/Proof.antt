@@ -1,4 +1,4 @@
--- `convention::hand` meets its contract: the values of an answer are filled in, and a refusal is packed.
+-- `convention::hand` meets its contract (O4, O5, O7): the values of an answer are filled in, and a refusal becomes one word.
 -- Assumes nothing.
 use mathlib.Core.Path.{_≡_, refl, sym, subst}
 use mathlib.Core.List.{List}
@@ -6,7 +6,7 @@ use Prim.Native.Nat.{ℕ}
 use borrow.Author.Needs.{needs}
 use Rattle.answers.specs.declared.Answer.{Answer}
 use Rattle.answers.specs.Outcomes.{outcomeOf}
-use Rattle.oatmist.specs.Convention.{Packable, CAnswer}
+use Rattle.oatmist.specs.Convention.{FitsWord, CAnswer}
 use Rattle.oatmist.proofs.convention.hand.Statement.{statement}
 use Rattle.oatmist.proofs.convention.hand.Tie as tie
 
@@ -16,7 +16,7 @@ handed-as b e r old new h = subst (λ (x : Answer). CAnswer (outcomeOf x) r old 
 
 refusal-word-requires : tie.Need-refusal-word-requires
 refusal-word-requires c κs =
-    let p = subst (λ (x : Answer). Packable (outcomeOf x)) (c .before .told3 .given .1) (c .before .before .before .before .pre) in
+    let p = subst (λ (x : Answer). FitsWord (outcomeOf x)) (c .before .told3 .given .1) (c .before .before .before .before .pre) in
     (p .1, p .2, p .3)
 
 returns : tie.Need-returns

@@ -1,13 +1,24 @@
--- `convention::hand_sizes` meets its contract: the four values are put one by one.
+-- `convention::hand_sizes` meets its contract (D1, S6): the four values are put one by one.
 -- Assumes nothing.
-use mathlib.Core.Path.{refl, ap, _∙_}
-use mathlib.Core.List.{List}
+use mathlib.Core.Path.{_≡_, refl, sym, ap, _∙_}
+use mathlib.Core.List.{List, [], _∷_}
 use Prim.Native.Nat.{ℕ}
-use lib.ListN.{set}
+use lib.ListN.{length, set}
+use lib.Seq.{take-nil}
 use borrow.Author.Needs.{needs}
-use Rattle.oatmist.proofs.convention.Copying.{set-four}
+use Rattle.sets.specs.Lists.{over}
+use Rattle.oatmist.specs.Convention.{withValues}
 use Rattle.oatmist.proofs.convention.hand_sizes.Statement.{statement}
 use Rattle.oatmist.proofs.convention.hand_sizes.Tie as tie
+
+-- four values put one by one, each where there is room for it
+set-four : (a b c d : ℕ) (l : List ℕ) → set (set (set (set l 0 a) 1 b) 2 c) 3 d ≡ withValues (a ∷ b ∷ c ∷ d ∷ []) l
+set-four a b c d [] = refl
+set-four a b c d (_ ∷ []) = refl
+set-four a b c d (_ ∷ _ ∷ []) = refl
+set-four a b c d (_ ∷ _ ∷ _ ∷ []) = refl
+set-four a b c d (_ ∷ _ ∷ _ ∷ _ ∷ rest) =
+    sym (ap (λ (l : List ℕ). over (a ∷ b ∷ c ∷ d ∷ l) (0 ∷ 0 ∷ 0 ∷ 0 ∷ rest)) (take-nil (length rest)))
 
 returns : tie.Need-returns
 returns c =

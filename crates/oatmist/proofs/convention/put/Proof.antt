@@ -1,4 +1,4 @@
--- `convention::put` meets its contract: past the end nothing is written.
+-- `convention::put` meets its contract, which serves D1 and C1: past the end nothing is written.
 -- Assumes nothing.
 use mathlib.Core.Path.{sym}
 use lib.Seq.{set-out}

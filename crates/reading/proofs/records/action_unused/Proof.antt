@@ -1,4 +1,4 @@
--- `records::action_unused` meets its contract: the alphabets lack an action exactly when their union lacks it.
+-- `records::action_unused` meets its contract (R6): the alphabets lack an action exactly when their union lacks it.
 -- Assumes nothing.
 use mathlib.Core.Path.{ap, _∙_}
 use mathlib.Core.Bool.{not}

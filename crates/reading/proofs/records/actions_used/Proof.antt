@@ -1,4 +1,4 @@
--- `records::actions_used` meets its contract. The loop's invariant: the union has just what the alphabets passed have.
+-- `records::actions_used` meets its contract, which serves R6. The loop's invariant: the union has just what the alphabets passed have.
 -- The measure is how many are left. Assumes nothing.
 use mathlib.Core.Path.{_≡_, sym, ap, _∙_}
 use mathlib.Core.Bool.{Bool, _||_}
@@ -9,14 +9,14 @@ use lib.Bits.{bitOr}
 use lib.ListN.{getD}
 use borrow.Author.Needs.{needs}
 use Rattle.sets.specs.Bits.{member}
+use Rattle.sets.proofs.Lists.{anyOf-below-zero, anyOf-below-more}
 use Rattle.sets.proofs.Members.{member-zero, member-or}
 use Rattle.reading.specs.records.Alphabets.{UnionOfAlphabets}
-use Rattle.reading.proofs.records.Searching.{anyOf-none, anyOf-more}
 use Rattle.reading.proofs.records.actions_used.Statement.{statement}
 use Rattle.reading.proofs.records.actions_used.Tie as tie
 
 none-yet : (l : List ℕ) → UnionOfAlphabets l 0 0
-none-yet l = record { exact = λ a. member-zero a ∙ sym (anyOf-none (λ i. member (getD l i 0) a)) }
+none-yet l = record { exact = λ a. member-zero a ∙ sym (anyOf-below-zero (λ i. member (getD l i 0) a)) }
 
 one-more : (l : List ℕ) (j all : ℕ) → UnionOfAlphabets l j all → UnionOfAlphabets l (j + 1) (bitOr all (getD l j 0))
 one-more l j all h =
@@ -24,7 +24,7 @@ one-more l j all h =
       exact =
           λ a. member-or all (getD l j 0) a
           ∙ ap (λ (b : Bool). b || member (getD l j 0) a) (h .exact a)
-          ∙ sym (anyOf-more (λ i. member (getD l i 0) a) j);
+          ∙ sym (anyOf-below-more (λ i. member (getD l i 0) a) j);
     }
 
 abbrev Inv-loop : tie.InvT-loop

@@ -1,4 +1,4 @@
--- `records::all_actions` meets its contract: 1 shifted by less than 64 places loses no bit, and is not 0.
+-- `records::all_actions` meets its contract, which serves R6: 1 shifted by less than 64 places loses no bit, and is not 0.
 -- Assumes nothing.
 use mathlib.Core.Path.{_≡_, sym, ap, _∙_}
 use Prim.Native.Nat.{ℕ, _-_, _*_, _%_, _^_, _<_}

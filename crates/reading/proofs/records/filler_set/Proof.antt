@@ -1,4 +1,4 @@
--- `records::filler_set` meets its contract: a field of three bytes is 0 exactly when its first two are and its third is.
+-- `records::filler_set` meets its contract, which serves R5: a field of three bytes is 0 exactly when its first two are and its third is.
 -- Assumes nothing.
 use mathlib.Core.Path.{_≡_, sym, ap, _∙_}
 use mathlib.Core.Logic.{_⊎_, inl, inr}

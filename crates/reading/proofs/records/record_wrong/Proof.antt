@@ -1,4 +1,4 @@
--- `records::record_wrong` meets its contract: the tests are the refusal's conditions taken together.
+-- `records::record_wrong` meets its contract (R5): the tests are the refusal's conditions taken together.
 -- Assumes nothing.
 use mathlib.Core.Path.{_≡_, sym, ap, _∙_}
 use mathlib.Core.Bool.{Bool, true, false, not, _||_, or-assoc}

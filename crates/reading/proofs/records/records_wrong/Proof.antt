@@ -1,4 +1,4 @@
--- `records::records_wrong` meets its contract. The loop's invariant: no record passed is wrong.
+-- `records::records_wrong` meets its contract (R5). The loop's invariant: no record passed is wrong.
 -- The measure is how many records are left. Assumes nothing.
 use mathlib.Core.Path.{_≡_, sym, _∙_}
 use mathlib.Core.Bool.{false}
@@ -6,8 +6,8 @@ use Prim.Native.Nat.{ℕ, _-_, _≤_, _<_}
 use native.Mathlib.Omega.{arith}
 use borrow.Author.Count.{below-more}
 use borrow.Author.Needs.{needs}
+use Rattle.sets.proofs.Lists.{found-below, none-found}
 use Rattle.sheet.specs.Refusals.{recordWrong}
-use Rattle.reading.proofs.records.Searching.{found-below, none-below}
 use Rattle.reading.proofs.records.records_wrong.Statement.{statement}
 use Rattle.reading.proofs.records.records_wrong.Tie as tie
 
@@ -34,7 +34,7 @@ returns-2 : tie.Need-returns-2 Inv-loop μ-loop
 returns-2 c =
     let a = c .before .before .before .args in
     let l = c .before .loop in
-    none-below (recordWrong (a .records .now) (a .m)) (a .n) (l .j) (omega arith) (l .inv .1)
+    none-found (recordWrong (a .records .now) (a .m)) (a .n) (l .j) (omega arith) (l .inv .1)
 
 pub records-wrong-spec : {M : Type 1} → statement M
 records-wrong-spec =

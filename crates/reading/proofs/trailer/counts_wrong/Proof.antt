@@ -1,4 +1,4 @@
--- `trailer::counts_wrong` meets its contract: the two counts are the bytes that are read. Assumes nothing.
+-- `trailer::counts_wrong` meets its contract (R3): the two counts are the bytes that are read. Assumes nothing.
 use mathlib.Core.Path.{sym, ap₂, _∙_}
 use mathlib.Core.Bool.{Bool, _||_}
 use Rattle.reading.proofs.trailer.Trailer.{counts-read}

@@ -1,4 +1,4 @@
--- `trailer::length_wrong` meets its contract. Assumes nothing.
+-- `trailer::length_wrong` meets its contract (R1). Assumes nothing.
 use Rattle.sheet.specs.Refusals.{lengthWrong}
 use borrow.Author.Needs.{needs}
 use Rattle.reading.proofs.trailer.length_wrong.Statement.{statement}

@@ -1,4 +1,4 @@
--- `trailer::mark_wrong` meets its contract: the bytes behind all but two are the last two.
+-- `trailer::mark_wrong` meets its contract (R2): the bytes behind all but two are the last two.
 -- Assumes nothing.
 use Rattle.reading.proofs.trailer.Trailer.{mark-tested}
 use borrow.Author.Needs.{needs}

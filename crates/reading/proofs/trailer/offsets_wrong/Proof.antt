@@ -1,4 +1,4 @@
--- `trailer::offsets_wrong` meets its contract: the offset of the steps is tested first, and the tests together are refusal 4.
+-- `trailer::offsets_wrong` meets its contract (R4): the offset of the steps is tested first, and the tests together are refusal 4.
 -- Assumes nothing.
 use mathlib.Core.Path.{_≡_, sym, _∙_}
 use mathlib.Core.Bool.{Bool, true, false, not, _||_, or-true, or-false, or-assoc}

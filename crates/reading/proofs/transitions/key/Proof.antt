@@ -1,4 +1,4 @@
--- `transitions::key` meets its contract: four bytes weighed by powers of 256.
+-- `transitions::key` meets its contract, which serves R8: four bytes weighed by powers of 256.
 -- Assumes nothing.
 use Rattle.reading.proofs.transitions.Order.{heavy-pairs}
 use borrow.Author.Needs.{needs}

@@ -1,5 +1,5 @@
--- `transitions::label_wrong` meets its contract: a label in the alphabet is right, and of the others that of an internal move. A set has no
--- element from 64 on, since it is below 2 ^ 64. Assumes nothing.
+-- `transitions::label_wrong` meets its contract, which serves R7: a label in the alphabet is right, and of the others that of an internal
+-- move. A set has no element from 64 on, since it is below 2 ^ 64. Assumes nothing.
 use mathlib.Core.Path.{_≡_, refl, sym, ap, _∙_}
 use mathlib.Core.Bool.{Bool, true, false, not, _||_}
 use mathlib.Core.Logic.{⊎-elim}

@@ -1,4 +1,5 @@
--- `transitions::order_wrong` meets its contract. The loop's invariant: the transitions rise exactly when those from k on do, behind the one before, whose number is at hand.
+-- `transitions::order_wrong` meets its contract (R8). The loop's invariant: the transitions rise exactly when those from k on do, behind
+-- the one before, whose number is at hand.
 -- Assumes nothing.
 use mathlib.Core.Path.{_≡_, sym, ap, ap₂, _∙_}
 use mathlib.Core.Bool.{Bool, not, _&&_}

@@ -1,4 +1,4 @@
--- `transitions::transition_wrong` meets its contract: the tests, in their order, are those of refusal 7 where the component is known.
+-- `transitions::transition_wrong` meets its contract (R7): the tests, in their order, are those of refusal 7 where the component is known.
 -- Assumes nothing.
 use mathlib.Core.Path.{_≡_, refl, sym, ap, _∙_}
 use mathlib.Core.Bool.{Bool, true, false, not, _||_}

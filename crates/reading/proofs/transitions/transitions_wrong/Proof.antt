@@ -1,5 +1,5 @@
--- `transitions::transitions_wrong` meets its contract. The loop's invariant: some transition is wrong exactly when one from k on is, and what is
--- at hand is the current component's. The measure is how many transitions are left. Assumes nothing.
+-- `transitions::transitions_wrong` meets its contract (R7). The loop's invariant: some transition is wrong exactly when one from k on is,
+-- and what is at hand is the current component's. The measure is how many transitions are left. Assumes nothing.
 use mathlib.Core.Path.{_≡_, refl, sym, ap, _∙_}
 use mathlib.Core.Bool.{Bool, true, false, _||_}
 use mathlib.Core.Logic.{⊎-elim}

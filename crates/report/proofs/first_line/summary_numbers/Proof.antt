@@ -1,4 +1,4 @@
--- `first_line::summary_numbers` meets its contract: the four numbers of the first line, each as its function gives it.
+-- `first_line::summary_numbers` meets its contract (P3): the four numbers of the first line, each as its function gives it.
 -- Assumes nothing.
 use mathlib.Core.Path.{_≡_, refl, ap, ap₂, _∙_}
 use mathlib.Core.List.{List, [], _∷_}
@@ -25,7 +25,7 @@ returns : tie.Need-returns
 returns c =
     let a = c .before .before .before .before .before .before .args in
     let p = c .before .before .before .before .before .before .pre in
-    first-line (a .sheet .now) (a .sizes .s) _ _ _ _ (p .0 .s-read) refl (p .2) (c .before .before .figure-with .ensures)
+    first-line (a .sheet .now) (a .sizes .s) _ _ _ _ (p .0 .sizes-read .s-read) refl (p .2) (c .before .before .figure-with .ensures)
     (c .bit .ensures ∙ ap bit (c .before .stuck-at .ensures))
 
 pub summary-numbers-spec : {M : Type 1} → statement M

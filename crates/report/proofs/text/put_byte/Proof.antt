@@ -1,4 +1,4 @@
--- `text::put_byte` meets its contract: one byte is stored.
+-- `text::put_byte` meets its contract, which serves P1: one byte is stored.
 -- Assumes nothing.
 use Rattle.report.proofs.text.Writers.{wrote-byte}
 use borrow.Author.Needs.{needs}

@@ -1,4 +1,4 @@
--- `text::put_part` meets its contract: a space, and the number behind it.
+-- `text::put_part` meets its contract (P1): a space, and the number behind it.
 -- Assumes nothing.
 use Rattle.report.proofs.text.Writers.{wrote-then}
 use borrow.Author.Needs.{needs}

@@ -29,7 +29,7 @@ use Rattle.answers.specs.Report.{report, reporting}
 use Rattle.answers.specs.SameWork.{sameWork}
 use Rattle.answers.specs.Leaner.{winner}
 use Rattle.answers.specs.TwoSheets.{tablesDiffer, unlessDiffer, ofTwo}
-use Rattle.oatmist.specs.Convention.{Packable, CAnswer}
+use Rattle.oatmist.specs.Convention.{FitsWord, CAnswer}
 
 length-first : (b : List ℕ) → ((k : ℕ) → refusal b k ≡ false) → lengthWrong b ≡ false
 unfolding refusal
@@ -53,78 +53,82 @@ verdict-small b k i e = let n = verdict-number b k i e in (n .0, n .1, go (verdi
         omega arith
     go (all-passed passed faultless) q = let z : _≡_ {A = ℕ} 0 1 = cc in absurd (omega arith)
 
+-- ---- behind the verdict on a sheet, on two sheets, and on the lent output (O4, O7)
+
 module _ {A : Type 0} (f : A → List ℕ) where
-  -- what comes after the verdict on a sheet
-  pub packable-on : (s : ℕ) → s < 256 → (b : List ℕ) (x : Outcome A) → Packable (values f x) → Packable (values f (onSheet s (verdict b) x))
-  packable-on s small b x p = go (verdict b) refl
+  -- what comes after the verdict on a sheet (O4)
+  pub fits-on : (s : ℕ) → s < 256 → (b : List ℕ) (x : Outcome A) → FitsWord (values f x) → FitsWord (values f (onSheet s (verdict b) x))
+  fits-on s small b x p = go (verdict b) refl
     where
-      go : (v : Verdict) → verdict b ≡ v → Packable (values f (onSheet s v x))
+      go : (v : Verdict) → verdict b ≡ v → FitsWord (values f (onSheet s v x))
       go accepted e = p
       go (refused k i) e = let h = verdict-small b k i e in (h .0, omega arith, small, omega arith)
 
-  pub packable-after : (b : List ℕ) (x : A) → Packable (values f (after (verdict b) (given x)))
-  packable-after b x = packable-on 0 (omega arith) b (given x) tt
+  pub fits-after : (b : List ℕ) (x : A) → FitsWord (values f (after (verdict b) (given x)))
+  fits-after b x = fits-on 0 (omega arith) b (given x) tt
 
-  pub packable-two : (b c : List ℕ) (x : A) → Packable (values f (ofTwo b c x))
+  pub fits-two : (b c : List ℕ) (x : A) → FitsWord (values f (ofTwo b c x))
   unfolding ofTwo
-  packable-two b c x =
-      packable-on 0 (omega arith) b (onSheet 1 (verdict c) (unlessDiffer (tablesDiffer b c) x))
-      (packable-on 1 (omega arith) c (unlessDiffer (tablesDiffer b c) x) (differ (tablesDiffer b c)))
+  fits-two b c x =
+      fits-on 0 (omega arith) b (onSheet 1 (verdict c) (unlessDiffer (tablesDiffer b c) x))
+      (fits-on 1 (omega arith) c (unlessDiffer (tablesDiffer b c) x) (differ (tablesDiffer b c)))
     where
-      differ : (d : Bool) → Packable (values f (unlessDiffer d x))
+      differ : (d : Bool) → FitsWord (values f (unlessDiffer d x))
       differ true = (omega arith, omega arith, omega arith, omega arith)
       differ false = tt
 
-pub packable-fitting : (f : ℕ → List ℕ) (text : List ℕ) (size : ℕ) → Packable (values f (lengthOr13 text size))
+-- 13 is told with the step index 0 and the sheet 0 (R13, O4)
+pub fits-text : (f : ℕ → List ℕ) (text : List ℕ) (size : ℕ) → FitsWord (values f (lengthOr13 text size))
 unfolding lengthOr13
-packable-fitting f text size = go (ltb size (length text))
+fits-text f text size = go (ltb size (length text))
   where
-    go : (t : Bool) → Packable (values f (unlessShort t (length text)))
+    go : (t : Bool) → FitsWord (values f (unlessShort t (length text)))
     go true = (omega arith, omega arith, omega arith, omega arith)
     go false = tt
 
-pub packable-read : (b : List ℕ) (x : List ℕ) → Packable (after (verdict b) (given x))
-packable-read b x = go (verdict b) refl
+pub fits-read : (b : List ℕ) (x : List ℕ) → FitsWord (after (verdict b) (given x))
+fits-read b x = go (verdict b) refl
   where
-    go : (v : Verdict) → verdict b ≡ v → Packable (after v (given x))
+    go : (v : Verdict) → verdict b ≡ v → FitsWord (after v (given x))
     go accepted e = tt
     go (refused k i) e = let h = verdict-small b k i e in (h .0, omega arith, omega arith, omega arith)
 
--- ---- the outcome of each call
+-- ---- the outcome of each call (O4, O7)
 
-pub packable-process : (b : List ℕ) → Packable (values (λ o. oneValue (offending o)) (processCheck b))
+pub fits-process : (b : List ℕ) → FitsWord (values (λ o. oneValue (offending o)) (processCheck b))
 unfolding processCheck
-packable-process b = packable-after (λ o. oneValue (offending o)) b (firstOffence (dependent (tables b)) (map members (steps b)))
+fits-process b = fits-after (λ o. oneValue (offending o)) b (firstOffence (dependent (tables b)) (map members (steps b)))
 
-pub packable-restate : (b : List ℕ) (size : ℕ) → Packable (values oneValue (restating b size))
+pub fits-restate : (b : List ℕ) (size : ℕ) → FitsWord (values oneValue (restating b size))
 unfolding restating
-packable-restate b size =
-    packable-on oneValue 0 (omega arith) b (lengthOr13 (restated b) size) (packable-fitting oneValue (restated b) size)
+fits-restate b size =
+    fits-on oneValue 0 (omega arith) b (lengthOr13 (restated b) size) (fits-text oneValue (restated b) size)
 
-pub packable-figure : (b : List ℕ) → Packable (values oneValue (figureOutcome b))
+pub fits-figure : (b : List ℕ) → FitsWord (values oneValue (figureOutcome b))
 unfolding figureOutcome
-packable-figure b = packable-after oneValue b (figure b)
+fits-figure b = fits-after oneValue b (figure b)
 
-pub packable-stuck : (b : List ℕ) → Packable (values (λ t. oneValue (bit t)) (stuckOutcome b))
+pub fits-stuck : (b : List ℕ) → FitsWord (values (λ t. oneValue (bit t)) (stuckOutcome b))
 unfolding stuckOutcome
-packable-stuck b = packable-after (λ t. oneValue (bit t)) b (stuck b)
+fits-stuck b = fits-after (λ t. oneValue (bit t)) b (stuck b)
 
-pub packable-report : (b : List ℕ) (size : ℕ) → Packable (values oneValue (reporting b size))
+pub fits-report : (b : List ℕ) (size : ℕ) → FitsWord (values oneValue (reporting b size))
 unfolding reporting
-packable-report b size = packable-fitting oneValue (report b) size
+fits-report b size = fits-text oneValue (report b) size
 
-pub packable-work : (b c : List ℕ) → Packable (values (λ t. oneValue (bit t)) (sameWork b c))
+pub fits-work : (b c : List ℕ) → FitsWord (values (λ t. oneValue (bit t)) (sameWork b c))
 unfolding sameWork
-packable-work b c = packable-two (λ t. oneValue (bit t)) b c (sameNumbers (restatedSteps b) (restatedSteps c))
+fits-work b c = fits-two (λ t. oneValue (bit t)) b c (sameNumbers (restatedSteps b) (restatedSteps c))
 
-pub packable-winner : (b c : List ℕ) → Packable (values oneValue (winner b c))
+pub fits-winner : (b c : List ℕ) → FitsWord (values oneValue (winner b c))
 unfolding winner
-packable-winner b c = packable-two oneValue b c (cond (ltb (length (restatedSteps c)) (length (restatedSteps b))) 1 0)
+fits-winner b c = fits-two oneValue b c (cond (ltb (length (restatedSteps c)) (length (restatedSteps b))) 1 0)
 
--- ---- an answer told as an equal outcome
+-- ---- an answer told as an equal outcome (O4, O7)
 
-pub packable-told : (told : Answer) (o : Outcome (List ℕ)) → outcomeOf told ≡ o → Packable o → Packable (outcomeOf told)
-packable-told told o e p = subst Packable (sym e) p
+pub fits-told : (told : Answer) (o : Outcome (List ℕ)) → outcomeOf told ≡ o → FitsWord o → FitsWord (outcomeOf told)
+fits-told told o e p = subst FitsWord (sym e) p
 
+-- an answer is handed over as its outcome is (O5)
 pub handed-told : (told : Answer) (o : Outcome (List ℕ)) → outcomeOf told ≡ o → (r : ℕ) (old new : List ℕ) → CAnswer (outcomeOf told) r old new → CAnswer o r old new
 handed-told told o e r old new h = subst (λ (x : Outcome (List ℕ)). CAnswer x r old new) e h
