@@ -1,13 +1,23 @@
-//! The proved library against plain Rust: the same sheets, one run, rounds in turn, the best round
+//! The proved library against plain Rust: the same sheets and products, one run, rounds in turn, the best round
 //! of each counts. Before anything is timed both must give the same answers, byte for byte.
 //!
 //! Usage: bench [SWEEPS]
 
 #[path = "fast.rs"]
 mod fast;
+#[path = "fast_rows.rs"]
+mod fast_rows;
 #[allow(dead_code)]
 #[path = "../tests/second/plain.rs"]
 mod plain;
+#[path = "product_lines.rs"]
+mod product_lines;
+#[allow(dead_code)]
+#[path = "../tests/second/random_products.rs"]
+mod random_products;
+#[allow(dead_code)]
+#[path = "../tests/second/plain_rows.rs"]
+mod plain_rows;
 #[allow(dead_code)]
 #[path = "../tests/second/sheets.rs"]
 mod sheets;
@@ -31,29 +41,13 @@ const KEPT: u64 = u64::MAX;
 const STRETCH: u128 = 200_000;
 
 // ---------------------------------------------------------------------------------------------
-// The four calls that are timed
+// The four calls on sheets that are timed
 
-fn proved_check(sheet: &[u8], _: &mut [u8]) -> u64 {
-    let mut answer = [0u64; 4];
-    let told = unsafe { oatmist_check(sheet, &mut answer) };
-    told ^ black_box(&answer)[0]
-}
-
-fn proved_restate(sheet: &[u8], out: &mut [u8]) -> u64 {
-    let mut answer = [0u64; 1];
-    let told = unsafe { oatmist_restate(sheet, out, &mut answer) };
-    told ^ black_box(&answer)[0]
-}
-
-fn plain_check(sheet: &[u8], _: &mut [u8]) -> u64 {
-    let mut answer = [0u64; 4];
-    let told = fast::check(sheet, &mut answer);
-    told ^ black_box(&answer)[0]
-}
-
-fn plain_restate(sheet: &[u8], out: &mut [u8]) -> u64 {
-    let mut answer = [0u64; 1];
-    let told = fast::restate(sheet, out, &mut answer);
+/// A call with room for N values; what it returned, and a value, so that neither is left out.
+#[inline(always)]
+fn answered<const N: usize>(call: impl FnOnce(&mut [u64]) -> u64) -> u64 {
+    let mut answer = [0u64; N];
+    let told = call(&mut answer);
     told ^ black_box(&answer)[0]
 }
 
@@ -70,48 +64,57 @@ fn passes(call: Call, sheets: &[Vec<u8>], out: &mut [u8], count: usize) -> u128 
     began.elapsed().as_nanos()
 }
 
-/// The sheets of one line of a table, and the best time of each call for one of them.
+/// The sheets or products of one line of a table, and the best time of each call for one of them. The calls come in twos.
 struct Row {
     name: String,
-    sheets: Vec<Vec<u8>>,
-    times: [f64; 4],
+    given: Vec<Vec<u8>>,
+    calls: &'static [Call],
+    times: Vec<f64>,
 }
 
-const CALLS: [Call; 4] = [proved_check, plain_check, proved_restate, plain_restate];
+/// The check and restating, the proved one before the plain one.
+const CALLS: [Call; 4] = [
+    |sheet, _| answered::<4>(|answer| unsafe { oatmist_check(sheet, answer) }),
+    |sheet, _| answered::<4>(|answer| fast::check(sheet, answer)),
+    |sheet, out| answered::<1>(|answer| unsafe { oatmist_restate(sheet, out, answer) }),
+    |sheet, out| answered::<1>(|answer| fast::restate(sheet, out, answer)),
+];
 
 impl Row {
-    fn new(name: String, sheets: Vec<Vec<u8>>) -> Row {
+    fn new(name: String, given: Vec<Vec<u8>>, calls: &'static [Call]) -> Row {
         Row {
             name,
-            sheets,
-            times: [f64::MAX; 4],
+            given,
+            calls,
+            times: vec![f64::MAX; calls.len()],
         }
+    }
+
+    /// How often all of it is given to a call in one stretch.
+    fn passes_of(&self, call: Call, out: &mut [u8]) -> usize {
+        passes(call, &self.given, out, 1);
+        let once = passes(call, &self.given, out, 1).max(1);
+        (STRETCH / once).clamp(1, 100_000) as usize
     }
 
     /// Some rounds. The calls take turns, and each round begins with another one.
     fn measure(&mut self, out: &mut [u8], rounds: usize) {
-        let counts = CALLS.map(|call| {
-            passes(call, &self.sheets, out, 1);
-            let once = passes(call, &self.sheets, out, 1).max(1);
-            (STRETCH / once).clamp(1, 100_000) as usize
-        });
+        let counts: Vec<usize> = self.calls.iter().map(|&call| self.passes_of(call, out)).collect();
         for round in 0..rounds {
-            for turn in 0..CALLS.len() {
-                let i = (round + turn) % CALLS.len();
-                let time = passes(CALLS[i], &self.sheets, out, counts[i]) as f64;
-                self.times[i] = self.times[i].min(time / (counts[i] * self.sheets.len()) as f64);
+            for turn in 0..self.calls.len() {
+                let i = (round + turn) % self.calls.len();
+                let time = passes(self.calls[i], &self.given, out, counts[i]) as f64;
+                self.times[i] = self.times[i].min(time / (counts[i] * self.given.len()) as f64);
             }
         }
     }
 
     fn print(&self) {
-        let [check, plain_check, restate, plain_restate] = self.times;
-        println!(
-            "| {} | {check:.0} | {plain_check:.0} | {:.2} | {restate:.0} | {plain_restate:.0} | {:.2} |",
-            self.name,
-            plain_check / check,
-            plain_restate / restate,
-        );
+        print!("| {} |", self.name);
+        for two in self.times.chunks(2) {
+            print!(" {:.0} | {:.0} | {:.2} |", two[0], two[1], two[1] / two[0]);
+        }
+        println!();
     }
 }
 
@@ -131,23 +134,35 @@ fn agree(name: &str, sheet: &[u8]) {
     assert_eq!(proved, meant, "{name}: the library's check");
     assert_eq!(by_hand, meant, "{name}: the plain check");
 
-    // Enough room, exactly enough, and a byte too little.
-    let mut size = [0u64; 1];
-    let needed = match fast::restate(sheet, &mut vec![0; ROOM], &mut size) {
-        0 => size[0] as usize,
-        _ => ROOM,
-    };
+    let meant = verdict.map(|sheet| sheet.restated()).map_err(fast::told);
+    let calls = [
+        |sheet: &[u8], out: &mut [u8], answer: &mut [u64]| unsafe { oatmist_restate(sheet, out, answer) },
+        fast::restate,
+    ];
+    agree_written(name, sheet, &meant, calls);
+}
+
+type Writer = fn(&[u8], &mut [u8], &mut [u64]) -> u64;
+
+/// Both versions of a call that writes, the proved one first: with enough room, exactly enough, and a byte too little.
+fn agree_written(name: &str, given: &[u8], meant: &Result<Vec<u8>, u64>, calls: [Writer; 2]) {
+    let needed = meant.as_ref().map_or(ROOM, |bytes| bytes.len());
     for room in [ROOM, needed, needed - 1] {
-        let mut outs = [vec![0xa5; room], vec![0xa5; room]];
-        let (mut one, mut two) = ([KEPT; 1], [KEPT; 1]);
-        let proved = (unsafe { oatmist_restate(sheet, &mut outs[0], &mut one) }, one);
-        let by_hand = (fast::restate(sheet, &mut outs[1], &mut two), two);
-        assert_eq!(proved, by_hand, "{name}: restating");
-        assert!(outs[0] == outs[1], "{name}: restated bytes");
-        let fits = verdict.is_ok() && room >= needed;
-        assert_eq!(proved.0 == 0, fits, "{name}: restating, refused or not");
-        let untouched = outs[0].iter().all(|&byte| byte == 0xa5) && one == [KEPT];
-        assert!(fits || untouched, "{name}: a refused call wrote");
+        let mut expected = vec![0xa5; room];
+        let due = match meant {
+            Ok(bytes) if room >= needed => {
+                expected[..needed].copy_from_slice(bytes);
+                (0, [needed as u64])
+            }
+            Ok(_) => (13, [KEPT]),
+            Err(number) => (*number, [KEPT]),
+        };
+        for (call, version) in calls.into_iter().zip(["the library", "the plain version"]) {
+            let (mut out, mut answer) = (vec![0xa5; room], [KEPT]);
+            let told = call(given, &mut out, &mut answer);
+            assert_eq!((told, answer), due, "{name}: {version} into {room}");
+            assert!(out == expected, "{name}: bytes by {version} into {room}");
+        }
     }
 }
 
@@ -398,24 +413,45 @@ fn growth() -> Vec<(&'static str, Vec<(usize, Vec<u8>)>)> {
 // ---------------------------------------------------------------------------------------------
 // The tables
 
-/// A table: what its first column has, and its lines.
-type Table = (String, Vec<Row>);
+/// A table: what its first column has, the calls that it is about, and its lines.
+struct Table {
+    name: String,
+    calls: &'static [&'static str],
+    rows: Vec<Row>,
+}
+
+impl Table {
+    /// A table of sheets; every one of them was tried before.
+    fn of_sheets(name: &str, lines: Vec<(String, Vec<Vec<u8>>)>) -> Table {
+        let line = |(name, sheets): (String, Vec<Vec<u8>>)| {
+            sheets.iter().for_each(|sheet| agree(&name, sheet));
+            Row::new(name, sheets, &CALLS)
+        };
+        Table {
+            name: name.to_string(),
+            calls: &["check", "restate"],
+            rows: lines.into_iter().map(line).collect(),
+        }
+    }
+
+    fn print(&self) {
+        print!("\n| {} |", self.name);
+        for call in self.calls {
+            print!(" {call} proved, ns | {call} plain, ns | ratio |");
+        }
+        println!("\n|---|{}", "---:|---:|---:|".repeat(self.calls.len()));
+        self.rows.iter().for_each(Row::print);
+    }
+}
 
 fn tables() -> Vec<Table> {
-    let mut made = vec![(
-        "Sheets".to_string(),
-        cases()
-            .into_iter()
-            .map(|(name, sheets)| Row::new(name.to_string(), sheets))
-            .collect(),
-    )];
+    let named = cases().into_iter().map(|(name, sheets)| (name.to_string(), sheets));
+    let mut made = vec![Table::of_sheets("Sheets", named.collect())];
     for (name, sizes) in growth() {
-        let rows = sizes
-            .into_iter()
-            .map(|(size, sheet)| Row::new(size.to_string(), vec![sheet]))
-            .collect();
-        made.push((name.to_string(), rows));
+        let lines = sizes.into_iter().map(|(size, sheet)| (size.to_string(), vec![sheet]));
+        made.push(Table::of_sheets(name, lines.collect()));
     }
+    made.push(product_lines::table());
     made
 }
 
@@ -434,7 +470,7 @@ fn print_marks(rows: &[Row]) {
     println!("|---|---:|---:|---:|");
     for (label, name) in MARKED {
         let row = rows.iter().find(|row| row.name == name).expect(name);
-        let [_, _, proved, plain] = row.times.map(|time| 1e9 / time);
+        let (proved, plain) = (1e9 / row.times[2], 1e9 / row.times[3]);
         println!("| {label} | {proved:.0} | {plain:.0} | {:.2} |", proved / plain);
     }
 }
@@ -448,30 +484,14 @@ fn main() {
         Some(text) => text.parse().expect("the number of sweeps"),
     };
     let mut tables = tables();
-    let mut compared = 0;
-    for (_, rows) in &tables {
-        for row in rows {
-            for sheet in &row.sheets {
-                agree(&row.name, sheet);
-                compared += 1;
-            }
-        }
-    }
-    println!("Both give the same answers on the {compared} sheets. Nanoseconds a call, best of {} rounds; ratio: plain / proved, above 1 the proved one is faster.", sweeps * AT_ONCE);
+    let compared: usize = tables.iter().flat_map(|table| &table.rows).map(|row| row.given.len()).sum();
+    println!("Both give the same answers on the {compared} sheets and products. Nanoseconds a call, best of {} rounds; ratio: plain / proved, above 1 the proved one is faster.", sweeps * AT_ONCE);
     let mut out = vec![0u8; ROOM];
     for _ in 0..sweeps {
-        for (_, rows) in &mut tables {
-            for row in rows {
-                row.measure(&mut out, AT_ONCE);
-            }
+        for row in tables.iter_mut().flat_map(|table| &mut table.rows) {
+            row.measure(&mut out, AT_ONCE);
         }
     }
-    print_marks(&tables[0].1);
-    for (name, rows) in &tables {
-        println!("\n| {name} | check proved, ns | check plain, ns | ratio | restate proved, ns | restate plain, ns | ratio |");
-        println!("|---|---:|---:|---:|---:|---:|---:|");
-        for row in rows {
-            row.print();
-        }
-    }
+    print_marks(&tables[0].rows);
+    tables.iter().for_each(Table::print);
 }

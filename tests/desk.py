@@ -57,7 +57,7 @@ class Desk:
         if told:
             number, sheet, step = told & 255, told >> 8 & 255, told >> 16
             return f"refused {number} {step}" + (f" of sheet {sheet}" if call in ("same_work", "winner") or sheet else "")
-        if call == "restate":
+        if call in ("restate", "rows"):
             return f"{value} bytes"
         if call == "process":
             return f"offends at {value - 1}" if value else "yes"
@@ -68,11 +68,19 @@ class Desk:
         """'yes', 'offends at P' or 'refused R P'."""
         return self.ask("process", (lent(sheet), len(sheet)))
 
-    def restate(self, sheet, output, room):
+    def written(self, call, given, output, room):
         """'N bytes' or 'refused R P', and the output, of which the first `room` bytes are lent, as it is then."""
         out = lent(output)
-        answer = self.ask("restate", (lent(sheet), len(sheet)), (out, room))
+        answer = self.ask(call, (lent(given), len(given)), (out, room))
         return answer, bytes(out)
+
+    def restate(self, sheet, output, room):
+        """What `written` says, of a sheet restated."""
+        return self.written("restate", sheet, output, room)
+
+    def rows(self, product, output, room):
+        """What `written` says, of the sheet that a product becomes (B6)."""
+        return self.written("rows", product, output, room)
 
     def same_work(self, first, second):
         """'yes', 'no' or 'refused R P of sheet Q'."""

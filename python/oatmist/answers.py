@@ -1,6 +1,6 @@
-"""The answer of a verb about one execution: its lines, or a refusal by 1 to 12 in words."""
+"""The answer of a verb about one execution: its lines, or a refusal in words: of a sheet by 1 to 12, of a product by 15 to 17."""
 from . import calls, inputs, manners, words
-from .faults import shown
+from .faults import Unfit
 
 
 def answer(given, lines):
@@ -11,7 +11,7 @@ def answer(given, lines):
             told, status = "".join(lines(system, execution)), manners.DONE
         except calls.Refusal as refusal:
             told, status = words.verdict(system, execution, refusal), manners.REFUSED
-    except inputs.NoSheet as fault:
-        told, status = words.told(fault.number, f"{shown(fault.path, 200)}: {fault.sentence}"), manners.REFUSED
+    except Unfit as fault:
+        told, status = words.told(fault.number, f"{fault.where()}: {fault.sentence}"), manners.REFUSED
     manners.say(told)
     return status

@@ -1,7 +1,7 @@
 """The proved calls: every call of include/oatmist.h as a function that gives its value, or raises `Refusal`.
 
-A sheet is any bytes: a bytes, a bytearray or a memoryview. The functions keep nothing between calls and may be called from several
-threads; ctypes lets other threads run meanwhile. The library is looked for at the first call (`library.find`).
+A sheet or a product is any bytes: a bytes, a bytearray or a memoryview. The functions keep nothing between calls and may be called from
+several threads; ctypes lets other threads run meanwhile. The library is looked for at the first call (`library.find`).
 
     sizes = check(sheet)                 # Sizes(components=2, actions=3, transitions_at=32, steps_at=52)
     sets = end_sets(sheet)               # [[1], [0]]: the states of each component
@@ -17,11 +17,12 @@ from .model import bits
 
 SHORTEST_SHEET, LONGEST_SHEET = 26, 16650
 COMPONENTS = 16
-REPORT_ROOM = 16384
+REPORT_ROOM, ROWS_ROOM = 16384, 4362
 STACK = 65536
 
 LENGTH, MARK, COUNTS, OFFSETS, RECORD, UNUSED_ACTION, TRANSITION, ORDER = range(1, 9)
 ACTIONS, STEP, CLASH, NOT_ENABLED, OUTPUT, TABLES = range(9, 15)
+PRODUCT, ROW, IDLE_COMPONENT = range(15, 18)
 
 
 class Refusal(Exception):
@@ -53,7 +54,7 @@ WITH_OUTPUT = [IN, SIZE, OUT, SIZE, OUT, SIZE]
 TWO_SHEETS = [IN, SIZE, IN, SIZE, OUT, SIZE]
 ARGUMENTS = {
     "check": ONE_SHEET, "end_sets": ONE_SHEET, "process": ONE_SHEET, "figure": ONE_SHEET, "stuck": ONE_SHEET,
-    "restate": WITH_OUTPUT, "report": WITH_OUTPUT, "same_work": TWO_SHEETS, "winner": TWO_SHEETS,
+    "restate": WITH_OUTPUT, "report": WITH_OUTPUT, "rows": WITH_OUTPUT, "same_work": TWO_SHEETS, "winner": TWO_SHEETS,
     "leaner": [IN, SIZE, IN, SIZE, ctypes.POINTER(Part)],
 }
 
@@ -91,10 +92,10 @@ def ask(name, count, *sheets, lent=()):
     return list(values)
 
 
-def written(name, sheet, room):
+def written(name, given, room):
     """What a call writes into lent bytes."""
     out = ctypes.create_string_buffer(max(room, 1))
-    length, = ask(name, 1, sheet, lent=[out])
+    length, = ask(name, 1, given, lent=[out])
     return out.raw[:length]
 
 
@@ -132,6 +133,11 @@ def stuck(sheet):
 def report(sheet):
     """The text that the program `mark` prints; a refused sheet has one, too."""
     return written("report", sheet, REPORT_ROOM).decode("ascii")
+
+
+def rows(product):
+    """The sheet without steps that a product given by rows becomes; the product is any bytes."""
+    return written("rows", product, ROWS_ROOM)
 
 
 def same_work(first, second):

@@ -1,6 +1,7 @@
 """What can go wrong in somebody's text, file or call, told in words.
 
-`Fault` is the one exception for it: what is wrong and what to write instead, with the file and the line where they are known.
+`Fault` is the one exception for it: what is wrong and what to write instead, with the file and the line where they are known. `Unfit` is
+one that the desk itself tells, by the number of a refusal.
 """
 import unicodedata
 
@@ -15,11 +16,22 @@ class Fault(Exception):
         super().__init__(message)
         self.message, self.line, self.path, self.status = message, line, path, status
 
+    def where(self):
+        """The file and the line, as far as they are known."""
+        told = shown(self.path, 200)
+        return f"{told}{':' if told else 'line '}{self.line}" if self.line else told
+
     def __str__(self):
-        where = shown(self.path, 200)
-        if self.line:
-            where += f"{':' if where else 'line '}{self.line}"
+        where = self.where()
         return cut(f"{where}: {self.message}" if where else self.message, WHOLE)
+
+
+class Unfit(Fault):
+    """A sheet or a product that the desk refuses whatever its steps are: which of the two, the number, and what to mend."""
+
+    def __init__(self, what, number, sentence, line=0):
+        super().__init__(f"no {what}, refused by {number}: {sentence}", line, status=1)
+        self.number, self.sentence = number, sentence
 
 
 def cut(text, most=SHOWN):

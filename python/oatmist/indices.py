@@ -168,11 +168,16 @@ def written(parts):
     return quoted("".join(f"[{part}]" if k % 2 else part for k, part in enumerate(parts)))
 
 
+def begins_rows(text):
+    """Whether a line begins the rows of a product. A transition from a state that is called rows does not."""
+    return text.split(None, 1)[0] == "rows" and "->" not in text
+
+
 def blocks(lines):
     """The lines of each component, and those before and after all components."""
     block = []
     for line in lines:
-        if line.text.split(None, 1)[0] in ("component", "steps") and block:
+        if (line.text.split(None, 1)[0] in ("component", "steps") or begins_rows(line.text)) and block:
             yield block
             block = []
         block.append(line)

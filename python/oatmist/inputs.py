@@ -1,13 +1,13 @@
-"""Systems and executions from the files that a person names: texts, sheets and .aut files."""
+"""Systems and executions from the files that a person names: texts of systems and of products, sheets and .aut files."""
 import os
 
-from . import aldebaran, calls, files, text
-from .faults import Fault, quoted
+from . import aldebaran, calls, files, rows, text
+from .faults import Fault, Unfit, quoted
 from .indices import Line
 from .letters import decoded
 from .mending import mending
 from .model import Execution
-from .reader import Reader
+from .reader import SystemReader
 from .sheet import MARK, decode, encode, number_names
 
 OTHER_SYSTEM = "this is over another system: its components or transitions differ, or are numbered in another order (14)"
@@ -15,7 +15,7 @@ OTHER_SYSTEM = "this is over another system: its components or transitions diffe
 
 def add_both(parser):
     """The arguments of a verb about one execution."""
-    parser.add_argument("system", metavar="SYSTEM", help="a text of components, with or without steps behind it; or a sheet")
+    parser.add_argument("system", metavar="SYSTEM", help="a text of a system or a product, with or without steps behind it; or a sheet")
     parser.add_argument("execution", metavar="EXECUTION", nargs="?", help="a text of steps, or a sheet over the same system")
 
 
@@ -24,22 +24,23 @@ def is_sheet(path, data):
     return path.endswith(".sheet") or data.endswith(MARK) and b"\0" in data
 
 
-class NoSheet(Fault):
-    """A sheet that the desk refuses by 1 to 8: the number, and what to mend."""
-
-    def __init__(self, number, sentence):
-        super().__init__(f"no sheet, refused by {number}: {sentence}", status=1)
-        self.number, self.sentence = number, sentence
-
-
 def open_sheet(data):
     """The system and the execution of a sheet. One that the desk refuses by 1 to 8 is told what to mend."""
     try:
         calls.check(data)
     except calls.Refusal as refusal:
         if refusal.number < calls.ACTIONS:
-            raise NoSheet(refusal.number, mending(data, refusal.number))
+            raise Unfit("sheet", refusal.number, mending(data, refusal.number))
     return decode(data)
+
+
+def read_text(written, folder=""):
+    """The system and the execution of a text; a product becomes a system. Files that the text names are looked for in the folder; where
+    that is None it may name none."""
+    if not text.has_rows(written):
+        return text.read(written, folder)
+    product, execution = text.read_product(written, folder)
+    return rows.system_of(product), execution
 
 
 def parse(path, data):
@@ -48,8 +49,8 @@ def parse(path, data):
         return open_sheet(data)
     folder, name = os.path.split("" if path == "-" else path)
     if name.endswith(".aut"):
-        return Reader(folder).read([Line(1, f"component {aldebaran.action_name(name[:-4])} from {name}")])
-    return text.read(decoded(data), folder)
+        return SystemReader(folder).read([Line(1, f"component {aldebaran.action_name(name[:-4])} from {name}")])
+    return read_text(decoded(data), folder)
 
 
 def read_system(path):

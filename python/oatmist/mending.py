@@ -118,5 +118,9 @@ PLACES = {
 
 def mending(sheet, number):
     """What to mend where the desk refuses a sheet by this number, 1 to 9."""
-    sentence = next(PLACES[number](sheet))
+    return closed(next(PLACES[number](sheet)))
+
+
+def closed(sentence):
+    """A sentence as it stands by itself: a capital in front, and a full stop behind it."""
     return sentence[0].upper() + sentence[1:] + ("" if sentence.endswith("?") else ".")

@@ -53,6 +53,7 @@ class System:
 
     actions: list = field(default_factory=list)  # their names
     components: list = field(default_factory=list)
+    dropped: list = field(default=None, compare=False)  # of a product: its components with transitions that no row names; else None
 
     def takers(self, action):
         """The components that have the action in their alphabet."""

@@ -1,4 +1,7 @@
-"""Takes the lines of a text one by one, and builds the system and the execution that they describe. docs/TEXT.md has the grammar."""
+"""Takes the lines of a text one by one, and builds the system and the execution that they describe. docs/TEXT.md has the grammar.
+
+`Reader` has what texts of systems and of products have alike, `SystemReader` what is particular to systems; `product_reader` has the rest.
+"""
 import re
 
 from . import aldebaran
@@ -11,23 +14,25 @@ from .steps import Steps
 WORDS = ("actions", "component", "states", "initial", "also", "steps", "raw", "for", "from")
 ARROW = re.compile(r"([^\s<>-]+)\s*-(?:\s*([^\s<>-]+)\s*-)?>\s*([^\s<>-]+)")
 EXAMPLES = "write 'idle -produce-> full', or 'full -> idle' for an internal one"
-LINES = "a line begins with actions, component, states, initial, also or steps, or is a transition such as 'idle -produce-> full'"
+NO_STATE, NO_INITIAL = "state: write 'states' and their names", "initial state: write 'initial' and a state"
+TABLES = (*WORDS[:5], "rows")  # with what lines of a system or of a product begin
+LINES = "a line begins with actions, component, states, initial, also, rows or steps, or is a transition such as 'idle -produce-> full'"
 
 
 def meant(word):
     """What to write for a word of the format that is not quite one; '' for others."""
     bare = word.rstrip(":=").casefold()
-    return next((f"write '{right}'" for right in WORDS[:6] if bare in (right, right.rstrip("s"), right + "s")), "")
+    return next((f"write '{right}'" for right in (*TABLES, "steps") if bare in (right, right.rstrip("s"), right + "s")), "")
 
 
 class Reader:
-    """Takes a text; `folder` is where the .aut files that it names are."""
+    """Takes a text and fills its tables, a system or a product. `folder` is where the .aut files that it names are, None where it may name
+    none; `made` makes a component, `words` are no names, and `lines` and `arrows` tell what to write."""
 
-    def __init__(self, folder="", limits=DESK):
-        self.folder, self.limits = folder, limits
-        self.system = System()
-        self.declared = {}  # actions that an 'actions' line names: that line
-        self.numbers = {}  # every action: its number
+    made, words, lines, arrows = None, WORDS, "", ""
+
+    def __init__(self, tables, folder, limits):
+        self.tables, self.folder, self.limits = tables, folder, limits
         self.component = None
         self.places = {}  # components and transitions: their lines
         self.states = {}  # the states of the component: their numbers
@@ -35,7 +40,7 @@ class Reader:
         self.line = None
 
     def read(self, lines):
-        """The system, and the execution where the text has one."""
+        """The tables, and the execution where the text has one."""
         try:
             for self.line in expanded(lines):
                 self.take(self.line.text)
@@ -45,7 +50,7 @@ class Reader:
             if fault.line or fault.path:
                 raise
             raise Fault(fault.message + self.line.note, self.line.number, self.line.path) if self.line else fault
-        return self.system, None if self.steps is None else Execution(self.steps.steps)
+        return self.tables, None if self.steps is None else Execution(self.steps.steps)
 
     def fail(self, message, line=None):
         line = line or self.line
@@ -57,7 +62,7 @@ class Reader:
             self.take_steps(word, text)
         elif word == "steps":
             self.end_tables()
-            self.steps = Steps(self.system.actions)
+            self.steps = Steps(self.tables.actions)
             self.steps.take(text[len("steps"):])
         elif word == "component":
             self.take_component(rest)
@@ -78,12 +83,12 @@ class Reader:
         if text.startswith("{") or word == "raw":
             self.fail("a step, but there is no line 'steps' above it: write one" if self.component else
                       "a step, but no system: the file of the system comes first, then that of the execution")
-        self.fail(f"not understood: {quoted(text)}; {meant(word) or odd_letter(text) or LINES}")
+        self.fail(f"not understood: {quoted(text)}; {meant(word) or odd_letter(text) or self.lines}")
 
     def take_steps(self, word, text):
         if word == "steps":
             self.fail("'steps' stands twice: delete the second")
-        if word in ("actions", "component", "states", "initial", "also") or "->" in text:
+        if word in TABLES or "->" in text:
             self.fail("after 'steps' only steps may follow: {a, b} or raw 0x..")
         self.steps.take(text)
 
@@ -91,7 +96,7 @@ class Reader:
         fault = name_fault(word)
         if fault:
             self.fail(fault)
-        if word in WORDS:
+        if word in self.words:
             self.fail(f"'{word}' is a word of the format and cannot be a name: write {word}1 or the like")
         return word
 
@@ -105,11 +110,11 @@ class Reader:
         name = self.name(rest[0])
         if name in self.places:
             self.fail(f"component {quoted(name)} is already there, in line {self.places[name]}: write another name")
-        if len(self.system.components) == self.limits.components:
+        if len(self.tables.components) == self.limits.components:
             self.fail(f"more than {self.limits.components} components: {quoted(name)} would be one too many")
         self.end_component()
-        self.component, self.states = Component(name), {}
-        self.system.components.append(self.component)
+        self.component, self.states = self.made(name), {}
+        self.tables.components.append(self.component)
         self.places[name] = self.line.number
         self.begun = self.line
         if len(rest) > 1:
@@ -117,6 +122,8 @@ class Reader:
 
     def take_file(self, name):
         """The lines of an .aut file, as if they stood here."""
+        if self.folder is None:
+            self.fail("a component from a file: hand in the steps alone")
         if not name:
             self.fail("'from' names no file: write 'from sender.aut'")
         here = self.line
@@ -124,11 +131,59 @@ class Reader:
             self.take(self.line.text)
         self.line = here
 
+    def state(self, word):
+        if word not in self.states:
+            known = cut(" ".join(self.component.states), 300) or "no states yet"
+            self.fail(f"unknown state {quoted(self.name(word))}: component {quoted(self.component.name)} has {known}")
+        return self.states[word]
+
+    def take_states(self, rest):
+        component = self.component
+        for word in rest:
+            if self.name(word) in self.states:
+                self.fail(f"state {quoted(word)} is named twice in component {quoted(component.name)}: delete one")
+            if len(component.states) == self.limits.states:
+                self.fail(f"more than {self.limits.states} states in component {quoted(component.name)}: "
+                          f"{quoted(word)} would be one too many")
+            self.states[word] = len(component.states)
+            component.states.append(word)
+
+    def arrow(self, text):
+        """A transition: the number of its source, its label or None, the number of its target."""
+        found = ARROW.fullmatch(text)
+        if not found:
+            self.fail(f"no transition: {quoted(text)}; {odd_letter(text) or self.arrows}")
+        source, label, target = found.groups()
+        return self.state(source), label, self.state(target)
+
+    def end_component(self):
+        """Sees that the component has all that it needs: `needs` gives what it has, and what to write where it has none."""
+        for given, what in self.needs() if self.component else ():
+            if not given:
+                self.fail(f"component {quoted(self.component.name)} has no {what}", self.begun)
+
+    def end_components(self):
+        """Sees that there is a component, and that the last one is whole."""
+        self.end_component()
+        if self.component is None:
+            self.fail("there is no component: write 'component' and a name")
+
+
+class SystemReader(Reader):
+    """Takes the text of a system."""
+
+    made, lines, arrows = Component, LINES, EXAMPLES
+
+    def __init__(self, folder="", limits=DESK):
+        super().__init__(System(), folder, limits)
+        self.declared = {}  # actions that an 'actions' line names: that line
+        self.numbers = {}  # every action: its number
+
     def add_action(self, name):
-        if len(self.system.actions) == self.limits.actions:
+        if len(self.tables.actions) == self.limits.actions:
             self.fail(f"more than {self.limits.actions} actions: {quoted(name)} would be one too many")
-        self.numbers[name] = len(self.system.actions)
-        self.system.actions.append(name)
+        self.numbers[name] = len(self.tables.actions)
+        self.tables.actions.append(name)
 
     def take_actions(self, rest):
         if self.component is not None:
@@ -151,23 +206,6 @@ class Reader:
         self.component.alphabet.add(self.numbers[word])
         return self.numbers[word]
 
-    def state(self, word):
-        if word not in self.states:
-            known = cut(" ".join(self.component.states), 300) or "no states yet"
-            self.fail(f"unknown state {quoted(self.name(word))}: component {quoted(self.component.name)} has {known}")
-        return self.states[word]
-
-    def take_states(self, rest):
-        component = self.component
-        for word in rest:
-            if self.name(word) in self.states:
-                self.fail(f"state {quoted(word)} is named twice in component {quoted(component.name)}: delete one")
-            if len(component.states) == self.limits.states:
-                self.fail(f"more than {self.limits.states} states in component {quoted(component.name)}: "
-                          f"{quoted(word)} would be one too many")
-            self.states[word] = len(component.states)
-            component.states.append(word)
-
     def take_initial(self, rest):
         self.component.initial.update(map(self.state, rest))
 
@@ -176,35 +214,24 @@ class Reader:
             self.action(word)
 
     def take_arrow(self, text):
-        found = ARROW.fullmatch(text)
-        if not found:
-            self.fail(f"no transition: {quoted(text)}; {odd_letter(text) or EXAMPLES}")
-        source, label, target = found.groups()
-        source, target = self.state(source), self.state(target)
+        source, label, target = self.arrow(text)
         transition = source, INTERNAL if label is None else self.action(label), target
         place = self.component.name, transition
         if place in self.places:
             self.fail(f"this transition is already there, in line {self.places[place]}: delete one")
-        if sum(len(component.transitions) for component in self.system.components) == self.limits.transitions:
+        if sum(len(component.transitions) for component in self.tables.components) == self.limits.transitions:
             self.fail(f"more than {self.limits.transitions:,} transitions")
         self.component.transitions.add(transition)
         self.places[place] = self.line.number
 
-    def end_component(self):
-        component = self.component
-        if component is None:
-            return
-        for given, what in ((component.states, "state: write 'states' and their names"),
-                            (component.initial, "initial state: write 'initial' and a state"),
-                            (component.alphabet, "action: give a transition a label, or write 'also' and an action")):
-            if not given:
-                self.fail(f"component {quoted(component.name)} has no {what}", self.begun)
+    def needs(self):
+        yield self.component.states, NO_STATE
+        yield self.component.initial, NO_INITIAL
+        yield self.component.alphabet, "action: give a transition a label, or write 'also' and an action"
 
     def end_tables(self):
-        self.end_component()
-        if self.component is None:
-            self.fail("there is no component: write 'component' and a name")
-        used = set().union(*(component.alphabet for component in self.system.components))
+        self.end_components()
+        used = set().union(*(component.alphabet for component in self.tables.components))
         for name, number in self.numbers.items():
             if number not in used:
                 self.fail(f"action {quoted(name)} is in no alphabet: delete it, or give a component a transition with it",

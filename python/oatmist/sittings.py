@@ -17,7 +17,6 @@ from .files import LONGEST, explain, inside
 from .inputs import is_sheet
 from .letters import decoded
 from .model import Execution
-from .reader import Reader
 
 ACCEPTED, REFUSED, OTHER_SYSTEM, UNREADABLE = "accepted", "refused", "other-system", "unreadable"
 VERDICTS = (ACCEPTED, REFUSED, OTHER_SYSTEM, UNREADABLE)
@@ -144,16 +143,10 @@ class Marker:
         return given, calls.restate(given)
 
 
-class HandedIn(Reader):
-    """Reads a text with a system of its own, which names no other files."""
-
-    def take_file(self, name):
-        self.fail("a component from a file: hand in the steps alone")
-
-
 def own_sheet(written, system):
-    """The sheet of a text with a system of its own, which calls the actions as this one does where it has the same tables."""
-    own, execution = HandedIn().read(text.lines_of(written))
+    """The sheet of a text with a system or a product of its own, which names no other files, and calls the actions as this one does where
+    it has the same tables."""
+    own, execution = inputs.read_text(written, folder=None)
     inputs.need_steps(execution)
     if inputs.same_tables(system, own):
         inputs.check_names(system, own)

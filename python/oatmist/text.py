@@ -1,6 +1,7 @@
-"""The readable text of systems and executions, read and written. docs/TEXT.md has the grammar.
+"""The readable text of systems, products and executions, read and written. docs/TEXT.md has the grammar.
 
     system, execution = read(text)                    # the execution is None where the text has no 'steps'
+    product, execution = read_product(text)           # of a text with 'rows'
     execution = read_execution(text, system)          # a text of steps alone
     text = write(system, execution)
 
@@ -8,9 +9,10 @@ What is wrong is told by `faults.Fault`, with its line and what to write instead
 carried out, is too long or has an empty step is for the desk to say.
 """
 from .faults import Fault
-from .indices import expanded, lines_of
+from .indices import begins_rows, expanded, lines_of
 from .model import DESK, INTERNAL, Execution
-from .reader import Reader
+from .product_reader import ProductReader
+from .reader import SystemReader
 from .steps import Steps
 
 WIDTH = 80
@@ -18,11 +20,21 @@ WIDTH = 80
 
 def read(text, folder="", limits=DESK):
     """The system of a text, and its execution. Files that the text names are looked for in the folder."""
-    return Reader(folder, limits).read(lines_of(text))
+    return SystemReader(folder, limits).read(lines_of(text))
+
+
+def read_product(text, folder=""):
+    """The product of a text, and its execution: steps of its rows."""
+    return ProductReader(folder).read(lines_of(text))
+
+
+def has_rows(text):
+    """Whether a text describes a product: it has the word 'rows' before its rows."""
+    return any(begins_rows(line.text) for line in lines_of(text))
 
 
 def has_system(text):
-    """Whether a text describes a system, and not steps alone."""
+    """Whether a text describes a system or a product, and not steps alone."""
     return any(line.text.split(None, 1)[0] in ("component", "actions") for line in lines_of(text))
 
 

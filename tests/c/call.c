@@ -1,5 +1,6 @@
-/* The calls by the header, built as C and as C++: accepted sheets, refused ones and pairs, each with arrays lent for the answer that are
-   empty, null, too short, exact and longer (C1, D1; what each part is about stands above it). Its last line is 'N passed, 0 failed'. */
+/* The calls by the header, built as C and as C++: accepted sheets, refused ones, pairs and products, each with arrays lent for the answer
+   that are empty, null, too short, exact and longer (C1, D1; what each part is about stands above it). Its last line is 'N passed, 0
+   failed'. */
 #include "oatmist.h"
 #include <stdio.h>
 #include <string.h>
@@ -20,7 +21,7 @@ static void expect(int holds, const char *call, const char *what) {
 /* X4: one component with one state and action 0, no transitions, no steps. */
 static const uint8_t small[OATMIST_SHORTEST_SHEET] = {1, 0, 0, 0, 1, 0, 0, 0, 1, 0, 0, 0, 0, 0, 0, 0, 0, 0, 16, 0, 16, 0, 1, 1, 0x46, 0x53};
 
-/* A sheet as a call is given it. */
+/* A sheet, or a product, as a call is given it. */
 struct sheet {
     const uint8_t *bytes;
     size_t length;
@@ -51,13 +52,13 @@ static struct sheet pair(uint8_t *bytes, size_t count, const uint8_t *steps) {
 
 /* ---- the calls ---- */
 
-enum call { CHECK, END_SETS, PROCESS, FIGURE, STUCK, RESTATE, REPORT, SAME_WORK, WINNER };
+enum call { CHECK, END_SETS, PROCESS, FIGURE, STUCK, RESTATE, REPORT, SAME_WORK, WINNER, ROWS };
 
 static const struct {
     const char *name;
     size_t values;
 } calls[] = {{"check", 4},   {"end sets", OATMIST_COMPONENTS}, {"process check", 1}, {"figure", 1}, {"stuck", 1},
-             {"restate", 1}, {"report", 1},                    {"same work", 1},     {"winner", 1}};
+             {"restate", 1}, {"report", 1},                    {"same work", 1},     {"winner", 1}, {"rows", 1}};
 
 #define ANSWER_ROOM 20
 #define OUT_ROOM 200
@@ -78,6 +79,7 @@ static uint64_t make(enum call call, struct sheet one, struct sheet two, size_t 
     case REPORT: return oatmist_report(one.bytes, one.length, o, out_room, a, room);
     case SAME_WORK: return oatmist_same_work(one.bytes, one.length, two.bytes, two.length, a, room);
     case WINNER: return oatmist_winner(one.bytes, one.length, two.bytes, two.length, a, room);
+    case ROWS: return oatmist_rows(one.bytes, one.length, o, out_room, a, room);
     }
     return 0;
 }
@@ -237,11 +239,114 @@ static void pairs(void) {
     pair_refused("other tables, turned", smallest, two, OATMIST_REFUSAL_TABLES);
 }
 
+/* B5: a product of two components and three rows: component 0 with two states and the transitions 0 to 1 and 1 to 0, component 1 with one
+   state and a loop; the rows (0, idle), (1, 0) and (idle, 0). */
+static const uint8_t product[20] = {2, 3, 2, 0, 2, 0, 1, 1, 0, 1, 0, 1, 0, 0, 0, 255, 1, 0, 255, 0};
+
+/* B7 to B10: the sheet that it becomes. */
+static const uint8_t product_sheet[58] = {2, 0, 0, 0, 1, 0, 0, 0, 3, 0, 0, 0, 0, 0, 0, 0, 1, 0, 0, 0, 1, 0, 0, 0, 6, 0, 0, 0, 0, 0, 0, 0,
+                                          0, 0, 0, 1, 0, 1, 1, 0, 1, 0, 1, 0, 1, 0, 2, 0, 0, 0, 32, 0, 48, 0, 2, 3, 0x46, 0x53};
+
+/* B6, R13, O5: a product of which this sheet is due, with outputs of every length up to two bytes more; and the desk accepts the sheet. */
+static void becomes(const char *what, struct sheet given, struct sheet due) {
+    const uint64_t length = due.length;
+    const uint64_t sizes[4] = {given.bytes[0], given.bytes[1], 16 * (uint64_t)given.bytes[0], length - 10};
+    size_t room;
+    for (room = 0; room <= due.length + 2; room++)
+        judge(what, ROWS, given, nothing, room, room < due.length ? OATMIST_REFUSAL_OUTPUT : 0, &length, due.bytes, due.length);
+    judge(what, ROWS, given, nothing, OUT_ROOM, 0, &length, due.bytes, due.length);
+    gives(what, CHECK, due, sizes);
+    gives_one(what, PROCESS, due, 0);
+}
+
+/* O5, O8: a product that is refused like this, whatever is lent. */
+static void product_refused(const char *what, struct sheet given, uint64_t told) {
+    const size_t rooms[] = {0, 1, sizeof product_sheet - 1, sizeof product_sheet, OUT_ROOM};
+    size_t k;
+    for (k = 0; k < sizeof rooms / sizeof rooms[0]; k++)
+        judge(what, ROWS, given, nothing, rooms[k], told, NULL, NULL, 0);
+}
+
+/* The product with two of its bytes changed, or the same byte twice. */
+static void changed(const char *what, size_t at, uint8_t value, size_t at2, uint8_t value2, uint64_t told) {
+    uint8_t bytes[sizeof product];
+    const struct sheet given = {bytes, sizeof bytes};
+    memcpy(bytes, product, sizeof product);
+    bytes[at] = value;
+    bytes[at2] = value2;
+    product_refused(what, given, told);
+}
+
+/* R15: one byte out of range. */
+static void out_of_range(const char *what, size_t at, uint8_t value) { changed(what, at, value, at, value, OATMIST_REFUSAL_PRODUCT); }
+
+/* B5 to B10, R15, R16, R17, O8: products given by rows. */
+static void products(void) {
+    static const uint8_t one[8] = {1, 1, 1, 0, 1, 0, 0, 0};
+    static const uint8_t one_sheet[30] = {1, 0, 0, 0, 1, 0, 0, 0, 1, 0, 0, 0, 0, 0, 0, 0, 0, 0, 0, 0, 0, 0, 16, 0, 20, 0, 1, 1, 0x46, 0x53};
+    static const uint8_t idle_row[6] = {1, 1, 1, 0, 0, 255}, idle_component[16] = {2, 2, 2, 0, 2, 0, 1, 1, 0, 1, 0, 0, 0, 255, 1, 255};
+    static const struct sheet two = {product, sizeof product}, two_due = {product_sheet, sizeof product_sheet};
+    static const struct sheet single = {one, sizeof one}, single_due = {one_sheet, sizeof one_sheet};
+    static const struct sheet idle = {idle_component, sizeof idle_component}, both_idle = {idle_row, sizeof idle_row};
+    uint8_t bytes[sizeof product + 1] = {0};
+    struct sheet given = {bytes, sizeof bytes};
+    becomes("two components", two, two_due);
+    becomes("one component", single, single_due);
+    product_refused("no bytes", nothing, OATMIST_REFUSAL_PRODUCT);
+    memcpy(bytes, product, sizeof product);
+    product_refused("a byte behind", given, OATMIST_REFUSAL_PRODUCT);
+    for (given.length = 0; given.length < sizeof product; given.length++)
+        product_refused("cut", given, OATMIST_REFUSAL_PRODUCT);
+    out_of_range("no components", 0, 0);
+    out_of_range("17 components", 0, 17);
+    out_of_range("no rows", 1, 0);
+    out_of_range("65 rows", 1, 65);
+    out_of_range("a row too few", 1, 2);
+    out_of_range("a row too many", 1, 4);
+    out_of_range("no states", 2, 0);
+    out_of_range("33 states", 2, 33);
+    out_of_range("initial state", 3, 2);
+    out_of_range("a transition too many", 4, 3);
+    out_of_range("source", 5, 2);
+    out_of_range("target", 8, 2);
+    out_of_range("target in the last component", 13, 1);
+    out_of_range("number", 14, 2);
+    out_of_range("number 254", 14, 254);
+    out_of_range("number in the last component", 15, 1);
+    changed("idle throughout", 18, 255, 19, 255, OATMIST_REFUSAL_ROW);
+    changed("the row before again", 18, 1, 19, 0, OATMIST_REFUSAL_ROW);
+    changed("an earlier row again", 18, 0, 19, 255, OATMIST_REFUSAL_ROW);
+    changed("idle throughout, and a number", 19, 255, 14, 2, OATMIST_REFUSAL_PRODUCT);
+    product_refused("an idle component", idle, OATMIST_REFUSAL_IDLE_COMPONENT);
+    product_refused("an idle component, by an idle row", both_idle, OATMIST_REFUSAL_ROW);
+}
+
+/* R13: the longest sheet of a product, of sixteen components that all take part in each of 64 rows: OATMIST_ROWS_ROOM bytes. */
+static void longest(void) {
+    static uint8_t bytes[2 + OATMIST_COMPONENTS * (3 + 2 * 64) + OATMIST_COMPONENTS * 64], sheet[OATMIST_ROWS_ROOM];
+    uint8_t *at = bytes;
+    uint64_t written = 0;
+    size_t j, g;
+    *at++ = OATMIST_COMPONENTS;
+    *at++ = 64;
+    for (j = 0; j < OATMIST_COMPONENTS; j++, at += 3 + 2 * 64) {
+        at[0] = 1;
+        at[2] = 64;
+    }
+    for (g = 0; g < 64; g++, at += OATMIST_COMPONENTS)
+        memset(at, (int)g, OATMIST_COMPONENTS);
+    expect(oatmist_rows(bytes, sizeof bytes, sheet, sizeof sheet - 1, &written, 1) == OATMIST_REFUSAL_OUTPUT, "rows", "a byte too few");
+    expect(oatmist_rows(bytes, sizeof bytes, sheet, sizeof sheet, &written, 1) == 0, "rows", "the longest sheet");
+    expect(written == sizeof sheet, "rows", "the length of the longest sheet");
+}
+
 int main(void) {
     taken_apart();
     accepted();
     turned_down();
     pairs();
+    products();
+    longest();
     printf("%d passed, %d failed\n", passed, failed);
     return failed != 0;
 }

@@ -10,16 +10,24 @@
 
 static int passed, failed;
 
-/* ---- sheets: X4, the smallest, and L1 to L7 at their most ---- */
+/* ---- sheets and products: X4, the smallest, and L1 to L7 and R15 at their most ---- */
 
+#define LONGEST_PRODUCT (2 + 16 * (3 + 2 * 255) + 16 * 64)
 static uint8_t smallest[OATMIST_SHORTEST_SHEET], largest[OATMIST_LONGEST_SHEET], internal[OATMIST_LONGEST_SHEET];
+static uint8_t one_row[8], all_rows[LONGEST_PRODUCT], alike[LONGEST_PRODUCT];
 
-static const struct sheet {
+/* What a call is given: so many sheets, or so many products. */
+#define GIVEN 3
+static const struct given {
     const char *name;
     const uint8_t *bytes;
     size_t length;
-} sheets[] = {{"smallest", smallest, sizeof smallest}, {"largest", largest, sizeof largest}, {"internal", internal, sizeof internal}};
-#define SHEETS (sizeof sheets / sizeof sheets[0])
+} sheets[GIVEN] = {{"smallest sheet", smallest, sizeof smallest},
+                   {"largest sheet", largest, sizeof largest},
+                   {"internal sheet", internal, sizeof internal}},
+  products[GIVEN] = {{"smallest product", one_row, sizeof one_row},
+                     {"largest product", all_rows, sizeof all_rows},
+                     {"rows alike", alike, sizeof alike}};
 
 static void put2(uint8_t *bytes, size_t value) {
     bytes[0] = (uint8_t)(value & 255);
@@ -69,7 +77,27 @@ static void make(uint8_t *sheet, size_t components, size_t states, size_t action
     at[9] = 0x53;
 }
 
-/* ---- the calls: each on a sheet, those on two on the same one twice ---- */
+/* B5: components with states and transitions, and rows that differ in the last component, and in the others too unless they are alike. */
+static void make_product(uint8_t *product, size_t components, size_t states, size_t transitions, size_t rows, int same) {
+    uint8_t *at = product;
+    size_t j, t, g;
+    *at++ = (uint8_t)components;
+    *at++ = (uint8_t)rows;
+    for (j = 0; j < components; j++) {
+        *at++ = (uint8_t)states;
+        *at++ = 0;
+        *at++ = (uint8_t)transitions;
+        for (t = 0; t < transitions; t++) {
+            *at++ = (uint8_t)(t % states);
+            *at++ = (uint8_t)((t + j + 1) % states);
+        }
+    }
+    for (g = 0; g < rows; g++)
+        for (j = 0; j < components; j++)
+            *at++ = (uint8_t)(same && j + 1 < components ? 0 : (g + j) % transitions);
+}
+
+/* ---- the calls: each on a sheet or a product, those on two sheets on the same one twice ---- */
 
 /* What is lent to a call. */
 struct lent {
@@ -89,18 +117,29 @@ CALL(restate, (s, l, lent->out, sizeof lent->out, lent->values, OATMIST_COMPONEN
 CALL(report, (s, l, lent->out, sizeof lent->out, lent->values, OATMIST_COMPONENTS))
 CALL(same_work, (s, l, s, l, lent->values, OATMIST_COMPONENTS))
 CALL(winner, (s, l, s, l, lent->values, OATMIST_COMPONENTS))
+CALL(rows, (s, l, lent->out, OATMIST_ROWS_ROOM, lent->values, OATMIST_COMPONENTS))
 static uint64_t leaner(const uint8_t *s, size_t l, struct lent *lent) {
     oatmist_leaner(s, l, s, l, &lent->part);
     return 0;
 }
 
-/* Each call, and the KiB of stack that oatmist.h says it takes at most. */
+/* Each call, the KiB of stack that oatmist.h says it takes at most, and what it is given. */
 static const struct {
     const char *name;
     uint64_t (*make)(const uint8_t *, size_t, struct lent *);
     size_t kib;
-} calls[] = {{"check", check, 8},     {"end_sets", end_sets, 9}, {"process", process, 8},      {"figure", figure, 16},  {"stuck", stuck, 9},
-             {"restate", restate, 16}, {"report", report, 33},    {"same_work", same_work, 24}, {"winner", winner, 16}, {"leaner", leaner, 16}};
+    const struct given *given;
+} calls[] = {{"check", check, 8, sheets},
+             {"end_sets", end_sets, 9, sheets},
+             {"process", process, 8, sheets},
+             {"figure", figure, 16, sheets},
+             {"stuck", stuck, 9, sheets},
+             {"restate", restate, 16, sheets},
+             {"report", report, 33, sheets},
+             {"same_work", same_work, 24, sheets},
+             {"winner", winner, 16, sheets},
+             {"leaner", leaner, 16, sheets},
+             {"rows", rows, 3, products}};
 #define CALLS (sizeof calls / sizeof calls[0])
 
 /* ---- the stack: D1, every call ends ---- */
@@ -111,7 +150,7 @@ static const struct {
 /* One call in a thread of its own. */
 struct job {
     size_t call;
-    const struct sheet *sheet;
+    const struct given *given;
     uint64_t told;
     char *from; /* where its caller's frame is */
 };
@@ -120,13 +159,13 @@ static void *run(void *given) {
     static struct lent lent;
     struct job *job = (struct job *)given;
     job->from = (char *)__builtin_frame_address(0);
-    job->told = calls[job->call].make(job->sheet->bytes, job->sheet->length, &lent);
+    job->told = calls[job->call].make(job->given->bytes, job->given->length, &lent);
     return NULL;
 }
 
 /* The bytes of stack that a call wrote, up to its caller's frame; 0 where the call was not made, or refused. */
-static size_t taken(size_t call, const struct sheet *sheet) {
-    struct job job = {call, sheet, 1, NULL};
+static size_t taken(size_t call, const struct given *given) {
+    struct job job = {call, given, 1, NULL};
     pthread_attr_t attributes;
     pthread_t thread;
     size_t lowest = 0;
@@ -146,17 +185,18 @@ static size_t taken(size_t call, const struct sheet *sheet) {
 static void stacks(int printed) {
     size_t call, k;
     for (call = 0; call < CALLS; call++)
-        for (k = 0; k < SHEETS; k++) {
-            taken(call, &sheets[k]); /* once before: the C library's functions are then found */
-            size_t bytes = taken(call, &sheets[k]);
+        for (k = 0; k < GIVEN; k++) {
+            const struct given *given = &calls[call].given[k];
+            taken(call, given); /* once before: the C library's functions are then found */
+            size_t bytes = taken(call, given);
             if (bytes > 0 && bytes <= 1024 * calls[call].kib && bytes <= OATMIST_STACK) {
                 passed++;
             } else {
                 failed++;
-                printf("FAILED: %s, %s sheet: %zu bytes of stack\n", calls[call].name, sheets[k].name, bytes);
+                printf("FAILED: %s, %s: %zu bytes of stack\n", calls[call].name, given->name, bytes);
             }
             if (printed)
-                printf("%-10s %-8s sheet: %6zu bytes of stack\n", calls[call].name, sheets[k].name, bytes);
+                printf("%-10s %-16s: %6zu bytes of stack\n", calls[call].name, given->name, bytes);
         }
 }
 
@@ -165,10 +205,10 @@ static void stacks(int printed) {
 #define THREADS 4
 #define TURNS 100
 
-/* All calls on all sheets, one after another; what each returned and wrote. */
+/* All calls on all that they are given, one after another; what each returned and wrote. */
 struct answers {
-    uint64_t told[CALLS][SHEETS];
-    struct lent lent[CALLS][SHEETS];
+    uint64_t told[CALLS][GIVEN];
+    struct lent lent[CALLS][GIVEN];
 };
 
 static struct answers alone, beside[THREADS];
@@ -177,8 +217,8 @@ static void ask(struct answers *answers) {
     size_t call, k;
     memset(answers, 0, sizeof *answers);
     for (call = 0; call < CALLS; call++)
-        for (k = 0; k < SHEETS; k++)
-            answers->told[call][k] = calls[call].make(sheets[k].bytes, sheets[k].length, &answers->lent[call][k]);
+        for (k = 0; k < GIVEN; k++)
+            answers->told[call][k] = calls[call].make(calls[call].given[k].bytes, calls[call].given[k].length, &answers->lent[call][k]);
 }
 
 /* The same again and again; gives back its argument where nothing ever differed. */
@@ -214,6 +254,9 @@ int main(int count, char **arguments) {
     make(smallest, 1, 1, 1, 0, 0);
     make(largest, 16, 32, 4, 0, 1024);
     make(internal, 16, 32, 3, 1, 1024);
+    make_product(one_row, 1, 1, 1, 1, 0);
+    make_product(all_rows, 16, 32, 255, 64, 0);
+    make_product(alike, 16, 32, 255, 64, 1);
     stacks(count > 1);
     side_by_side();
     printf("%d passed, %d failed\n", passed, failed);

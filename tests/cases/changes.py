@@ -1,4 +1,4 @@
-"""Changes in the bytes of a sheet (S3 to S6): README.md has their words."""
+"""Changes in the bytes of a sheet (S3 to S6) or of a product (B5): README.md has their words."""
 import re
 
 TRAILER = {"C": (0, 2), "T": (2, 2), "S": (4, 2), "n": (6, 1), "m": (7, 1)}
@@ -72,6 +72,10 @@ def swap(sheet, j, k):
     return put(put(sheet, a, sheet[b:b + 4]), b, sheet[a:a + 4])
 
 
+def set_byte(given, place, text):
+    return put(given, int(place), value(text, 1))
+
+
 def cut(sheet, count):
     return sheet[:int(count)]
 
@@ -94,6 +98,7 @@ WORDS = (
     (r"record ([0-9]+) (states|filler [123]|initial|alphabet) = (.+)", set_record),
     (r"transition ([0-9]+) (component|source|label|target) = (.+)", set_transition),
     (r"swap transitions ([0-9]+) and ([0-9]+)", swap),
+    (r"byte ([0-9]+) = ([0-9]+)", set_byte),
     (r"cut to ([0-9]+) bytes?", cut),
     (r"remove ([0-9]+) bytes? at ([0-9]+)", remove),
     (r"insert ([0-9]+) bytes? ([0-9a-f]{2}) at ([0-9]+)", insert),

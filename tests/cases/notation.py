@@ -21,8 +21,8 @@ class Line:
         self.number, self.indent, self.text = number, indent, text
 
 
-class Sheet:
-    """A sheet of a case: the lines of its text, with no repetition left, and the changes in the bytes that are made of them."""
+class Given:
+    """A sheet or a product of a case: the lines of its text, with no repetition left, and the changes in the bytes made of them."""
 
     def __init__(self, text):
         self.text, self.changes = text, []
@@ -36,11 +36,11 @@ class Question:
 
 
 class Case:
-    """A case: its label, what it shows, its sheets and its questions with what is due."""
+    """A case: its label, what it shows, its product and its sheets, and its questions with what is due."""
 
     def __init__(self, line, label):
         self.line, self.label = line, label
-        self.shows, self.sheets, self.questions = None, [], []
+        self.shows, self.product, self.sheets, self.questions = None, None, [], []
 
 
 # ---- repetition ----------------------------------------------------------------------------------
@@ -134,7 +134,16 @@ def read_sheet(systems, line, rest, lines):
         raise Malformed(line.number, "a sheet of nothing")
     if rest and rest not in systems:
         raise Malformed(line.number, f"there is no system '{rest}'")
-    return Sheet(expanded(systems.get(rest, [])) + expanded(lines))
+    return Given(expanded(systems.get(rest, [])) + expanded(lines))
+
+
+def read_product(case, line, rest, lines):
+    """A product by lines; it stands before the sheet that it becomes."""
+    if rest or not lines:
+        raise Malformed(line.number, "the lines of a product stand below the word")
+    if case.product or case.sheets:
+        raise Malformed(line.number, "'product' out of place")
+    return Given(expanded(lines))
 
 
 def read_item(case, systems, line, lines):
@@ -149,10 +158,13 @@ def read_item(case, systems, line, lines):
         if len(case.sheets) != ("sheet", "second").index(word):
             raise Malformed(line.number, f"'{word}' out of place")
         case.sheets.append(read_sheet(systems, line, rest, lines))
+    elif word == "product":
+        case.product = read_product(case, line, rest, lines)
     elif word == "change":
-        if not case.sheets or not rest:
+        given = case.sheets[-1] if case.sheets else case.product
+        if not given or not rest:
             raise Malformed(line.number, "'change' out of place")
-        case.sheets[-1].changes.append(Line(line.number, 0, rest))
+        given.changes.append(Line(line.number, 0, rest))
     else:
         case.questions.append(Question(line.number, word, rest, lines))
     if lines and word in ("shows", "change"):
@@ -165,7 +177,7 @@ def read_case(systems, head, lines):
     case = Case(head.number, label)
     for line, deeper in below(lines, 2):
         read_item(case, systems, line, deeper)
-    for given, what in ((label, "label"), (case.shows, "'shows'"), (case.sheets, "'sheet'"),
+    for given, what in ((label, "label"), (case.shows, "'shows'"), (case.sheets or case.product, "'sheet' and no 'product'"),
                         (case.questions, "answer that is due")):
         if not given:
             raise Malformed(head.number, f"the case has no {what}")

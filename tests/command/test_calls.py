@@ -18,7 +18,7 @@ def load(name):
 
 
 class Header(common.Case):
-    """O4, O7, L1, L7, R1 to R14: calls.py says what include/oatmist.h says."""
+    """O4, O7, L1, L7, R1 to R17: calls.py says what include/oatmist.h says."""
 
     def setUp(self):
         super().setUp()
@@ -41,14 +41,14 @@ class Header(common.Case):
             self.assertEqual(len(declared), len(calls.ARGUMENTS[name]), name)
 
     def test_constants(self):
-        for name in ("SHORTEST_SHEET", "LONGEST_SHEET", "COMPONENTS", "REPORT_ROOM", "STACK"):
+        for name in ("SHORTEST_SHEET", "LONGEST_SHEET", "COMPONENTS", "REPORT_ROOM", "ROWS_ROOM", "STACK"):
             found = re.search(rf"#define OATMIST_{name} (\d+)", self.header)
             self.assertEqual(int(found[1]), getattr(calls, name), name)
         self.assertEqual(calls.COMPONENTS, DESK.components)
 
     def test_refusals(self):
         declared = re.findall(r"OATMIST_REFUSAL_(\w+) = (\d+)", self.header)
-        self.assertEqual(len(declared), 14)
+        self.assertEqual(len(declared), 17)
         for name, number in declared:
             self.assertEqual(getattr(calls, name), int(number), name)
 

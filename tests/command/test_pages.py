@@ -1,4 +1,4 @@
-"""What the README and docs/TEXT.md show is so (G1, L1 to L7)."""
+"""What the README and docs/TEXT.md show is so (G1, L1 to L7, B5, R15 to R17)."""
 import os
 import re
 
@@ -6,6 +6,7 @@ import common
 from oatmist import cli, files, text
 from oatmist.indices import expanded, lines_of
 from oatmist.model import DESK
+from oatmist.product import MOST
 from oatmist.reader import WORDS
 
 
@@ -18,11 +19,14 @@ class TextPage(common.Case):
     """docs/TEXT.md: its examples are read as it says (G1), and it tells the limits (L1 to L7)."""
 
     def test_blocks(self):
-        first, second = re.findall(r"```\n(.*?)```", page("docs/TEXT.md"), re.S)
+        first, second, third = re.findall(r"```\n(.*?)```", page("docs/TEXT.md"), re.S)
         system, execution = text.read(first)
         self.assertEqual((system.actions, execution.steps), (["produce", "start", "deliver", "reset"], [[0, 1], [2]]))
         self.assertEqual(len(text.read(second)[0].components), 10)
         self.assertLessEqual(second.count("\n"), 13)
+        product, execution = text.read_product(third)
+        self.assertEqual(([row.takes for row in product.rows], execution.steps), ([[0, 0], [1, None], [None, 1]], [[0], [1, 2]]))
+        self.assertIn("restated in 2", self.call("mark", self.write("product.txt", third)).out)
 
     def test_table(self):
         rows = re.findall(r"^\| `([^`]* for [^`]*)` \| (?:`([^`]*)`|(.*)) \|$", page("docs/TEXT.md"), re.M)
@@ -41,7 +45,7 @@ class TextPage(common.Case):
 
     def test_limits(self):
         said = page("docs/TEXT.md")
-        for count in (*DESK, files.LONGEST):
+        for count in (*DESK, MOST.transitions, files.LONGEST):
             self.assertRegex(said, rf"\b{count:,}\b")
 
 
@@ -51,11 +55,12 @@ class Readme(common.Case):
     def test_commands(self):
         os.chdir(common.TOP)
         commands = re.findall(r"^    \./oatmist (\w+) (.*)$", page("README.md"), re.M)
-        self.assertEqual([verb for verb, _ in commands], ["mark", "mark", "class"])
+        self.assertEqual([verb for verb, _ in commands], ["mark", "mark", "class", "mark"])
         answers = [self.call(verb, *rest.split()) for verb, rest in commands]
         self.assertEqual(answers[0].status, 0)
         self.assertIn("".join(f"    {line}\n" for line in answers[1].out.splitlines()), page("README.md"))
         self.assertIn("model", answers[2].out)
+        self.assertEqual(answers[3].status, 0)
 
     def test_what_the_command_needs(self):
         needs = page("README.md").partition("## What you need")[2].partition("\n##")[0]

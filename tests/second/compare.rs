@@ -1,7 +1,8 @@
 //! C4: the proved library against the second implementation, on random sheets: the verdict, the sizes,
 //! the end sets, the process check, the restated bytes, the figure, stuck and the printed text; and
-//! on random pairs: same work, which sheet is leaner, and the part that is handed back. Every entry
-//! of what was lent is compared too: a refused call must leave all of it as it came.
+//! on random pairs: same work, which sheet is leaner, and the part that is handed back; and on random
+//! products: the sheet that each becomes. Every entry of what was lent is compared too: a refused call
+//! must leave all of it as it came.
 //!
 //! Usage: compare [SHEETS] [SEED]
 //!
@@ -12,8 +13,14 @@
 // Slices are passed to the library as they are to C: a pointer and a length.
 #![allow(improper_ctypes_definitions)]
 
+mod compare_rows;
+mod firing;
 #[allow(dead_code)]
 mod plain;
+#[allow(dead_code)]
+mod random_products;
+#[allow(dead_code)]
+mod plain_rows;
 #[allow(dead_code)]
 mod sheets;
 mod tally;
@@ -44,6 +51,8 @@ extern "C" {
     fn oatmist_winner(first: &[u8], second: &[u8], answer: &mut [u64]) -> u64;
     /// The step section of the leaner sheet, in the caller's own bytes; an empty part where refused.
     fn oatmist_leaner<'a>(first: &'a [u8], second: &'a [u8], part: &mut &'a [u8]);
+    /// The bytes written.
+    fn oatmist_rows(product: &[u8], out: &mut [u8], answer: &mut [u64]) -> u64;
 }
 
 /// A refusal as a call returns it: its number in bits 0 to 7, the sheet in bits 8 to 15, the step
@@ -55,15 +64,16 @@ fn told(number: u64, index: usize, sheet: usize) -> u64 {
 /// What a call must return, and the values of its answer, none where it is refused.
 type Due = (u64, Vec<u64>);
 
-/// Differing sheets or pairs after which the comparison stops.
+/// Differing sheets, pairs or products after which the comparison stops.
 const ENOUGH: u64 = 10;
 
-/// Sheets or pairs that a class must have at least, in a run of the usual length.
+/// Sheets, pairs or products that a class must have at least, in a run of the usual length.
 const LEAST: u64 = 50;
 const USUAL: u64 = 30_000;
 
-/// One pair for so many sheets.
+/// One pair for so many sheets, and one product.
 const PAIR_SHARE: usize = 6;
+const PRODUCT_SHARE: usize = 2;
 
 fn main() {
     let count = argument(1, USUAL);
@@ -73,32 +83,49 @@ fn main() {
     let mut tally = Tally::new();
     let mut classes = Classes::new();
     let mut differing = 0;
+    // Products have dice of their own.
+    let mut own = Dice::new(seed + 1);
     for number in 0..count as usize {
-        let case = sheets::case(&mut dice, number);
-        let verdict = plain::verdict(&case.bytes);
-        classes.count(&case.bytes, &verdict);
-        let differences = compare(&mut tally, &mut dice, &case.bytes, &verdict);
-        if show(&mut differing, case.kind, &[&case.bytes], &differences) {
-            tally.finish()
+        let mut enough = compare_next(&mut tally, &mut dice, &mut classes, &mut differing, number);
+        if number % PRODUCT_SHARE == 0 {
+            let case = sheets::case_of(random_products::KINDS, &mut own, number / PRODUCT_SHARE);
+            let differences = compare_rows::compare(&mut tally, &mut own, &mut classes, &case.bytes);
+            enough |= show(&mut differing, case.kind, &[&case.bytes], &differences);
         }
-        if number % PAIR_SHARE != 0 {
-            continue;
-        }
-        let (first, second, _) = sheets::two_sheets(&mut dice, number / PAIR_SHARE);
-        classes.count_pair(&first, &second);
-        let differences = compare_pair(&mut tally, &mut dice, &first, &second);
-        if show(&mut differing, "pair", &[&first, &second], &differences) {
+        if enough {
             tally.finish()
         }
     }
-    tally.part("sheets and pairs");
+    tally.part("sheets, pairs and products");
     // Shorter runs are judged by the share that they have of the usual length.
     let least = LEAST * count.min(USUAL) / USUAL;
     classes.print(&mut tally, least);
     tally.finish()
 }
 
-/// Prints the first sheet or pair that differs; whether there were enough of them.
+/// The next sheet, and the next pair where it is its turn; whether enough differed.
+fn compare_next(
+    tally: &mut Tally,
+    dice: &mut Dice,
+    classes: &mut Classes,
+    differing: &mut u64,
+    number: usize,
+) -> bool {
+    let case = sheets::case(dice, number);
+    let verdict = plain::verdict(&case.bytes);
+    classes.count(&case.bytes, &verdict);
+    let differences = compare(tally, dice, &case.bytes, &verdict);
+    let mut enough = show(differing, case.kind, &[&case.bytes], &differences);
+    if number % PAIR_SHARE == 0 {
+        let (first, second, _) = sheets::two_sheets(dice, number / PAIR_SHARE);
+        classes.count_pair(&first, &second);
+        let differences = compare_pair(tally, dice, &first, &second);
+        enough |= show(differing, "pair", &[&first, &second], &differences);
+    }
+    enough
+}
+
+/// Prints the first sheet, pair or product that differs; whether there were enough of them.
 fn show(differing: &mut u64, kind: &str, given: &[&[u8]], differences: &[String]) -> bool {
     if differences.is_empty() {
         return false;
@@ -114,9 +141,9 @@ fn show(differing: &mut u64, kind: &str, given: &[&[u8]], differences: &[String]
         }
     }
     if *differing == ENOUGH {
-        println!("{ENOUGH} sheets or pairs differ; stopped");
+        println!("{ENOUGH} sheets, pairs or products differ; stopped");
     }
-    *differing == ENOUGH
+    *differing >= ENOUGH
 }
 
 // ---------------------------------------------------------------------------------------------
@@ -297,12 +324,12 @@ fn compare_written(
     });
 }
 
-/// What is due where so many bytes are lent for these.
-fn fitted(bytes: &[u8], length: usize) -> Result<&[u8], u64> {
-    if length < bytes.len() {
-        Err(told(13, 0, 0))
-    } else {
-        Ok(bytes)
+/// What is due where so many bytes are lent for these; a refusal comes before 13.
+fn fitted(asked: &Result<Vec<u8>, u64>, length: usize) -> Result<&[u8], u64> {
+    match asked {
+        Ok(bytes) if length < bytes.len() => Err(told(13, 0, 0)),
+        Ok(bytes) => Ok(bytes),
+        Err(number) => Err(*number),
     }
 }
 
@@ -319,10 +346,7 @@ fn compare_restated(
     };
     let exact = restated.as_ref().ok().map(|out| out.len());
     for length in buffer_lengths(dice, sheet.len(), exact) {
-        let written = match &restated {
-            Ok(out) => fitted(out, length),
-            Err(number) => Err(*number),
-        };
+        let written = fitted(&restated, length);
         compare_written(tally, dice, differences, ("restate", oatmist_restate), sheet, length, written);
     }
 }
@@ -334,9 +358,10 @@ fn compare_report(
     sheet: &[u8],
     verdict: &Result<plain::Sheet, plain::Refusal>,
 ) {
-    let text = plain::report_of(verdict);
-    for length in buffer_lengths(dice, sheet.len(), Some(text.len())) {
-        let written = fitted(text.as_bytes(), length);
+    let text = Ok(plain::report_of(verdict).into_bytes());
+    let exact = text.as_ref().ok().map(|text| text.len());
+    for length in buffer_lengths(dice, sheet.len(), exact) {
+        let written = fitted(&text, length);
         compare_written(tally, dice, differences, ("report", oatmist_report), sheet, length, written);
     }
 }
@@ -413,7 +438,7 @@ fn compare_pair(tally: &mut Tally, dice: &mut Dice, first: &[u8], second: &[u8])
     });
 
     if let Ok(related) = same {
-        let (one, two) = (restated_by_library(first), restated_by_library(second));
+        let (one, two) = (written_by(oatmist_restate, first), written_by(oatmist_restate, second));
         let right = one.is_ok() && two.is_ok() && (one == two) == related;
         note(tally, &mut differences, right, || {
             format!("related: {related}, restated otherwise")
@@ -425,11 +450,11 @@ fn compare_pair(tally: &mut Tally, dice: &mut Dice, first: &[u8], second: &[u8])
     differences
 }
 
-/// The restated bytes by the library, or what it returned.
-fn restated_by_library(sheet: &[u8]) -> Result<Vec<u8>, u64> {
+/// The bytes that a call of the library writes, or what it returned.
+fn written_by(call: Writer, given: &[u8]) -> Result<Vec<u8>, u64> {
     let mut out = vec![0xee; 16_650];
     let mut answer = [0];
-    match unsafe { oatmist_restate(sheet, &mut out, &mut answer) } {
+    match unsafe { call(given, &mut out, &mut answer) } {
         0 => {
             out.truncate(answer[0] as usize);
             Ok(out)
@@ -441,7 +466,7 @@ fn restated_by_library(sheet: &[u8]) -> Result<Vec<u8>, u64> {
 // ---------------------------------------------------------------------------------------------
 // What was seen: R1 to R14, L1 to L7 at both sides
 
-/// How many sheets and pairs of each class there were, in the order in which they are printed.
+/// How many sheets, pairs and products of each class there were, in the order in which they are printed.
 struct Classes(Vec<(String, u64)>);
 
 /// Ranges of a size, from and to. Each printed limit is a range of its own.
@@ -565,6 +590,7 @@ impl Classes {
         names.extend(FORMED.map(String::from));
         names.extend(STUCK.map(String::from));
         names.extend(PAIRS.iter().map(|name| name.to_string()));
+        names.extend(compare_rows::class_names());
         Classes(names.into_iter().map(|name| (name, 0)).collect())
     }
 

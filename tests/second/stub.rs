@@ -3,6 +3,9 @@
 
 #[allow(dead_code)]
 mod plain;
+#[allow(dead_code)]
+mod plain_rows;
+mod stub_rows;
 
 fn bug(name: &str) -> bool {
     std::env::var("OATMIST_BUG").is_ok_and(|chosen| chosen == name)

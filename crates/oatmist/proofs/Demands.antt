@@ -28,10 +28,13 @@ use Rattle.report.specs.Calls.{ReportAnswer}
 use Rattle.answers.specs.declared.EndSets.{EndSets}
 use Rattle.desk.specs.Calls.{EndSetsAnswer, endArrayBy, ProcessAnswer, RestateAnswer, FigureAnswer, StuckAnswer}
 use Rattle.comparing.specs.Calls.{SameWorkAnswer, WinnerAnswer}
+use Rattle.products.specs.ProductVerdict.{rowsOutcome}
+use Rattle.rows.specs.Calls.{RowsAnswer, RowsRefusal}
+use Rattle.rows.proofs.Demands.{rows-refuses, refused-left as rows-refused-left}
 use Rattle.oatmist.specs.Convention.{withValues, FitsWord, CAnswer}
 use Rattle.oatmist.specs.Calls.{EndSetsForC}
 use Rattle.oatmist.specs.Demands.{ReadsAs, InFront, ToldToC, Number, DemandsForC}
-use Rattle.oatmist.proofs.FitsWord.{fits-read, fits-process, fits-restate, fits-figure, fits-stuck, fits-report, fits-work, fits-winner}
+use Rattle.oatmist.proofs.FitsWord.{fits-read, fits-process, fits-restate, fits-figure, fits-stuck, fits-report, fits-rows, fits-work, fits-winner}
 
 -- ---- the values in front
 
@@ -187,12 +190,19 @@ demands-for-c =
           number-to-c (λ x. x) (ReportRefusal b (length out)) (reporting b (length out)) (report-refuses b (length out))
           (fits-report b (length out)) (λ a. ReportAnswer b out a left) (λ a e. record { answer-told = e; output-left = c .output-left })
           r old new (c .answer-told);
+      rows = λ b out left old new r c.
+          number-to-c (λ x. x) (RowsRefusal b (length out)) (rowsOutcome b (length out)) (rows-refuses b (length out))
+          (fits-rows b (length out)) (λ a. RowsAnswer b out a left) (λ a e. record { answer-told = e; output-left = c .output-left })
+          r old new (c .answer-told);
       restate-untouched = λ b out left old new r c n.
           where-refused oneValue (restating b (length out)) r old new (c .answer-told) n (left ≡ out)
           (λ k i s e. c .output-left ∙ output-laws .refused-untouched b out k i s e);
       report-untouched = λ b out left old new r c n.
           where-refused oneValue (reporting b (length out)) r old new (c .answer-told) n (left ≡ out)
           (λ k i s e. c .output-left ∙ output-kept b out k i s e);
+      rows-untouched = λ b out left old new r c n.
+          where-refused oneValue (rowsOutcome b (length out)) r old new (c .answer-told) n (left ≡ out)
+          (λ k i s e. c .output-left ∙ rows-refused-left b out k i s e);
       leaner = λ b c part h. h;
       worked = (λ z. absurd (omega arith), refl, refl, refl);
     }

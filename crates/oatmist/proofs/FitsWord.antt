@@ -1,4 +1,4 @@
--- O4, O7: every refusal of a call fits into one number: it is at most 14, its sheet 0 or 1, its step index below the number of steps.
+-- O4, O7: every refusal of a call fits into one number: it is at most 17, its sheet 0 or 1, its step index below the number of steps.
 -- Assumes nothing.
 use mathlib.Core.Path.{_≡_, refl, sym, subst}
 use mathlib.Core.Bool.{Bool, true, false, cond}
@@ -29,6 +29,9 @@ use Rattle.answers.specs.Report.{report, reporting}
 use Rattle.answers.specs.SameWork.{sameWork}
 use Rattle.answers.specs.Leaner.{winner}
 use Rattle.answers.specs.TwoSheets.{tablesDiffer, unlessDiffer, ofTwo}
+use Rattle.products.specs.ProductBytes.{productOf}
+use Rattle.products.specs.ProductSheet.{productSheet}
+use Rattle.products.specs.ProductVerdict.{malformed, badRow, idleComponent, refusedBy, rowsOutcome}
 use Rattle.oatmist.specs.Convention.{FitsWord, CAnswer}
 
 length-first : (b : List ℕ) → ((k : ℕ) → refusal b k ≡ false) → lengthWrong b ≡ false
@@ -115,6 +118,20 @@ fits-stuck b = fits-after (λ t. oneValue (bit t)) b (stuck b)
 pub fits-report : (b : List ℕ) (size : ℕ) → FitsWord (values oneValue (reporting b size))
 unfolding reporting
 fits-report b size = fits-text oneValue (report b) size
+
+-- 15, 16 and 17 are told with the step index 0 and the sheet 0 (O4, O8)
+fits-by : (t : Bool) (k : ℕ) → 1 ≤ k → k < 256 → (o : Outcome ℕ) → FitsWord (values oneValue o)
+    → FitsWord (values oneValue (refusedBy t k o))
+fits-by true k low small o p = (low, small, omega arith, omega arith)
+fits-by false k low small o p = p
+
+pub fits-rows : (b : List ℕ) (size : ℕ) → FitsWord (values oneValue (rowsOutcome b size))
+unfolding rowsOutcome
+fits-rows b size =
+    fits-by (malformed b) 15 (omega arith) (omega arith) _
+    (fits-by (badRow (productOf b)) 16 (omega arith) (omega arith) _
+    (fits-by (idleComponent (productOf b)) 17 (omega arith) (omega arith) _
+    (fits-text oneValue (productSheet (productOf b)) size)))
 
 pub fits-work : (b c : List ℕ) → FitsWord (values (λ t. oneValue (bit t)) (sameWork b c))
 unfolding sameWork

@@ -16,6 +16,7 @@ use Rattle.answers.specs.Leaner.{winner, leaner}
 use Rattle.answers.specs.Figure.{figureOutcome}
 use Rattle.answers.specs.Stuck.{stuckOutcome}
 use Rattle.answers.specs.Report.{reporting, reportOutput}
+use Rattle.products.specs.ProductVerdict.{rowsOutcome, rowsOutput}
 use Rattle.oatmist.specs.Convention.{CAnswer}
 
 -- O1, S6: the check
@@ -47,6 +48,11 @@ pub record RestateForC (b out : List ℕ) (r : ℕ) (left old new : List ℕ) : 
 pub record ReportForC (b out : List ℕ) (r : ℕ) (left old new : List ℕ) : Type 0 where
   pub answer-told : CAnswer (values oneValue (reporting b (length out))) r old new
   pub output-left : left ≡ reportOutput b out
+
+-- B6, O8, R13: a product given by rows
+pub record RowsForC (b out : List ℕ) (r : ℕ) (left old new : List ℕ) : Type 0 where
+  pub answer-told : CAnswer (values oneValue (rowsOutcome b (length out))) r old new
+  pub output-left : left ≡ rowsOutput b out
 
 -- A1, R14: same work
 abbrev pub SameWorkForC : List ℕ → List ℕ → ℕ → List ℕ → List ℕ → Type 0

@@ -2,7 +2,7 @@
 // a length, and the values of an answer go to an array that the caller lends (include/oatmist.h).
 mod convention;
 
-ghost use Rattle.oatmist.specs.Calls.{CheckForC, EndSetsForC, ProcessForC, FigureForC, StuckForC, RestateForC, ReportForC, SameWorkForC, WinnerForC, LeanerForC};
+ghost use Rattle.oatmist.specs.Calls.{CheckForC, EndSetsForC, ProcessForC, FigureForC, StuckForC, RestateForC, ReportForC, SameWorkForC, WinnerForC, LeanerForC, RowsForC};
 pub use answers::Answer;
 pub use answers::EndSets;
 pub use answers::Sizes;
@@ -16,6 +16,7 @@ pub use desk::stuck::is_stuck;
 pub use desk::verdict::check;
 pub use desk::verdict::end_sets;
 pub use report::report;
+pub use rows::rows;
 
 // The verdict: n, m, T and S of an accepted sheet.
 #[no_mangle]
@@ -102,4 +103,12 @@ pub extern "C" fn oatmist_report(sheet: &[u8], out: &mut [u8], answer: &mut [u64
     ensures { λ r. ⌜ ReportForC (now (sheet .entry)) (now (out .entry)) r (now (out .exit)) (now (answer .entry)) (now (answer .exit)) ⌝ }
 {
     convention::hand(report(sheet, out), answer)
+}
+
+// B6: a product given by rows: how many bytes of its sheet were written to `out`.
+#[no_mangle]
+pub extern "C" fn oatmist_rows(product: &[u8], out: &mut [u8], answer: &mut [u64]) -> u64
+    ensures { λ r. ⌜ RowsForC (now (product .entry)) (now (out .entry)) r (now (out .exit)) (now (answer .entry)) (now (answer .exit)) ⌝ }
+{
+    convention::hand(rows(product, out), answer)
 }

@@ -5,12 +5,12 @@ use mathlib.Core.Path.{_≡_, refl, sym, ap, ap₂, _∙_, subst}
 use mathlib.Core.Bool.{Bool, true, false, _||_, false≢true, or-assoc}
 use mathlib.Core.Logic.{_↔_, _⊎_, inl, inr, ⊎-elim}
 use mathlib.Core.List.{List, [], _∷_, _++_, map, append-assoc, List·Memᴰ, List·Memᴰ·head, List·Memᴰ·tail, List·Memᴰ·not-nil, List·Memᴰ·cases-cons, List·Memᴰ·append-cases, Memᴰ·append-left, Memᴰ·append-right}
-use Prim.Native.Nat.{ℕ, zero, suc, _+_, _-_, _≤_, _<_, zero-le}
-use native.Mathlib.Nat.{lt-irrefl, le-antisymm, eq-or-lt-of-le, zero-add, suc-add, add-sub-of-le}
+use Prim.Native.Nat.{ℕ, zero, suc, _+_, _-_, _*_, _≤_, _<_, zero-le}
+use native.Mathlib.Nat.{lt-irrefl, le-antisymm, eq-or-lt-of-le, zero-add, suc-add, add-comm, mul-suc, add-sub-of-le}
 use native.Mathlib.Numerals.{add-one}
 use native.Mathlib.Decide.{decLt}
 use native.Mathlib.Omega.{arith}
-use lib.ListN.{length, take, drop, getD, drop-of-length-le}
+use lib.ListN.{length, take, drop, getD, length-append, drop-of-length-le}
 use lib.Seq.{take-nil, take-append-seam, drop-append-seam, drop-cons, getD-take, length-take-le}
 use Rattle.sets.specs.Lists.{anyOf, allOf, appendAll, over, Distinct, upward, below, RisingAbove, Rising}
 use Rattle.sets.proofs.Bools.{not-both, iff-bool, false-iff, and-true, or-true, or-left-comm}
@@ -250,3 +250,57 @@ rising-same (x ∷ k) (y ∷ l) r s h =
     ap₂ (λ (i : ℕ) (t : List ℕ). i ∷ t) same
     (rising-same k l (above-rising x k r) (above-rising y l s)
     (λ i. (λ m. tail-mem x y k l same r m (h i .0 (List·Memᴰ·tail m)), λ m. tail-mem y x l k (sym same) s m (h i .1 (List·Memᴰ·tail m)))))
+
+-- ---- tests over the numbers below n
+
+length-upward : (i k : ℕ) → length (upward i k) ≡ k
+unfolding upward
+length-upward i zero = refl
+length-upward i (suc k) = ap suc (length-upward (suc i) k)
+
+pub length-below : (n : ℕ) → length (below n) ≡ n
+unfolding below
+length-below n = length-upward 0 n
+
+-- some number below n passes the test
+pub some-below : (p : ℕ → Bool) (n : ℕ) → (anyOf p (below n) ≡ true) ↔ ((i : ℕ) × (i < n) × (p i ≡ true))
+some-below p n = (
+  λ h. let r = anyOf-elim p (below n) h in (r .0, mem-below n (r .0) .0 (r .1), r .2),
+  λ h. anyOf-intro p (below n) (mem-below n (h .0) .1 (h .1)) (h .2),
+)
+
+-- none does
+pub none-below : (p : ℕ → Bool) (n : ℕ) → (anyOf p (below n) ≡ false) ↔ ((i : ℕ) → i < n → p i ≡ false)
+none-below p n = (
+  λ h i l. anyOf-false p (below n) h (mem-below n i .1 l),
+  λ h. none-false p (below n) (λ i m. h i (mem-below n i .0 m)),
+)
+
+-- two tests that agree below n
+pub any-same : (p q : ℕ → Bool) (n : ℕ) → ((i : ℕ) → i < n → p i ≡ q i) → anyOf p (below n) ≡ anyOf q (below n)
+any-same p q n e = anyOf-same p q (below n) (λ i m. e i (mem-below n i .0 m))
+
+-- the last number below i + 1, or one below i
+pub last-or-below : (i k : ℕ) → k < i + 1 → (k ≡ i) ⊎ (k < i)
+last-or-below i k l = eq-or-lt-of-le (omega arith)
+
+-- ---- lists made over the numbers below a number, and lists of one length, joined
+
+-- G4: entry j of what f makes of the numbers from i on
+pub map-upward-at : (f : ℕ → List ℕ) (i k j : ℕ) → j < k → getD (map f (upward i k)) j [] ≡ f (i + j)
+unfolding upward
+map-upward-at f i (suc k) zero h = ap f (omega arith)
+map-upward-at f i (suc k) (suc j) h = map-upward-at f (suc i) k j (omega arith) ∙ ap f (omega arith)
+
+-- G4: entry j of what f makes of the numbers below k; `map-below-at` of `Filling` says it where f makes numbers
+pub list-below-at : (f : ℕ → List ℕ) (k j : ℕ) → j < k → getD (map f (below k)) j [] ≡ f j
+unfolding below
+list-below-at f k j h = map-upward-at f 0 k j h ∙ ap f (omega arith)
+
+-- G4: lists of one length, joined, are as long as that length times their number
+pub joined-length : (k : ℕ) (ls : List (List ℕ)) → ((l : List ℕ) → List·Memᴰ l ls → length l ≡ k) → length (appendAll ls) ≡ k * length ls
+joined-length k [] h = omega arith
+joined-length k (l ∷ ls) h =
+    length-append l (appendAll ls)
+    ∙ ap₂ (λ (a b : ℕ). a + b) (h l (List·Memᴰ·head refl)) (joined-length k ls (λ x m. h x (List·Memᴰ·tail m)))
+    ∙ add-comm k (k * length ls) ∙ sym (mul-suc k (length ls))

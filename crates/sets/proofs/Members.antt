@@ -2,23 +2,23 @@
 -- The number of bits is free: only `members`, and what is said of it, has 64.
 -- Assumes nothing.
 use mathlib.Core.Path.{_≡_, refl, sym, ap, _∙_, subst}
-use mathlib.Core.Bool.{Bool, true, false, _&&_, _||_, false≢true, or-assoc}
+use mathlib.Core.Bool.{Bool, true, false, not, _&&_, _||_, false≢true, or-assoc}
 use mathlib.Core.Logic.{_↔_, _≢_, _⊎_, inl, inr}
 use mathlib.Core.List.{List, [], _∷_, List·Memᴰ, List·Memᴰ·head, List·Memᴰ·tail, List·Memᴰ·not-nil}
-use Prim.Native.Nat.{ℕ, zero, suc, _+_, _*_, _/_, _%_, _^_, _≤_, _<_, zero-le, min, max}
+use Prim.Native.Nat.{ℕ, zero, suc, _+_, _-_, _*_, _/_, _%_, _^_, _≤_, _<_, zero-le, min, max}
 use native.Mathlib.Nat.{le-refl, zero-add, add-zero, add-suc, suc-add, le-antisymm, le-of-suc-le-suc, not-suc-le-zero, zero-lt-suc, lt-of-lt-of-le, lt-of-not-le, eq-or-lt-of-le, mod-lt, div-one, div-eq-of-lt, zero-div, pow-suc}
 use native.Mathlib.Numerals.{add-one, one-add}
 use native.Mathlib.Omega.{arith}
 use lib.Dec.{eqb, eqb·zero-suc, eqb·suc-zero, eqb·suc-suc}
 use lib.Arith.{bin-ind, digits-mod}
-use lib.Pow.{pow-mono, shr-shr}
+use lib.Pow.{pow-pos, pow-mono, ones-lt, shr-shr}
 use lib.Bits.{bitOr, bitAnd, or-step, and-step, or-shr, and-shr}
 use lib.Count.{ones, ones-step, ones-ones}
 use lib.ListN.{length}
-use Rattle.sets.specs.Lists.{keep, Distinct, RisingAbove, Rising}
+use Rattle.sets.specs.Lists.{anyOf, keep, Distinct, below, RisingAbove, Rising}
 use Rattle.sets.specs.Bits.{member, membersFrom, members, with, setOf}
-use Rattle.sets.proofs.Bools.{true-or-false, not-both, iff-bool, or-true, eqb-true, eqb-false}
-use Rattle.sets.proofs.Lists.{above-rising, rising-distinct, rising-same}
+use Rattle.sets.proofs.Bools.{true-or-false, not-both, iff-bool, not-true, not-false, and-true, or-true, eqb-true, eqb-false}
+use Rattle.sets.proofs.Lists.{above-rising, rising-distinct, rising-same, some-below, none-below}
 
 -- ---- bit by bit: the lowest bit, and the bits of the half
 
@@ -288,3 +288,49 @@ ones-membersFrom i (suc k) x h =
 
 pub ones-members : (x : ℕ) → x < 2 ^ 64 → ones x ≡ length (members x)
 ones-members x h = ap ones (sym (div-one x)) ∙ ones-membersFrom 0 64 x h ∙ ap length (sym (members-from x))
+
+-- ---- the set of all numbers below m, and a set that lacks one of them (S1)
+
+has-full : (m i : ℕ) → i < m → member (2 ^ m - 1) i ≡ true
+has-full zero i l = absurd (omega arith)
+has-full (suc m) zero l = member-low (2 ^ suc m - 1) ∙ ap (λ (z : ℕ). eqb z 1) odd
+  where
+    odd : (2 ^ suc m - 1) % 2 ≡ 1
+    odd = let e = pow-suc 2 m in let p = pow-pos m in omega arith
+has-full (suc m) (suc i) l = member-half (2 ^ suc m - 1) i ∙ ap (λ (z : ℕ). member z i) half ∙ has-full m i (le-of-suc-le-suc l)
+  where
+    half : (2 ^ suc m - 1) / 2 ≡ 2 ^ m - 1
+    half = let e = pow-suc 2 m in let p = pow-pos m in omega arith
+
+-- S1: the set of all numbers below m is 2 ^ m - 1
+pub full-member : (m i : ℕ) → (member (2 ^ m - 1) i ≡ true) ↔ (i < m)
+full-member m i = (member-lt m (2 ^ m - 1) i (ones-lt m), has-full m i)
+
+absorb : (p q : Bool) → (q ≡ true → p ≡ true) → (p && q) ≡ q
+absorb true q h = refl
+absorb false true h = h refl
+absorb false false h = refl
+
+-- x is given by its elements, and `full` has the numbers below m and no other
+module _ (x full m : ℕ) (has : ℕ → Bool) (given : (i : ℕ) → member x i ≡ has i) (all : (i : ℕ) → (member full i ≡ true) ↔ (i < m)) where
+  whole : anyOf (λ i. not (has i)) (below m) ≡ false → bitAnd x full ≡ full
+  whole none = member-ext (bitAnd x full) full (λ i. member-and x full i ∙ absorb (member x i) (member full i) (inside i))
+    where
+      inside : (i : ℕ) → member full i ≡ true → member x i ≡ true
+      inside i h = given i ∙ not-false (has i) .0 (none-below (λ j. not (has j)) m .0 none i (all i .0 h))
+
+  lacking : (i : ℕ) → i < m → has i ≡ false → bitAnd x full ≢ full
+  lacking i l h e =
+      let both : member (bitAnd x full) i ≡ true = ap (λ (z : ℕ). member z i) e ∙ all i .1 l in
+      not-both (and-true (member x i) (member full i) .0 (sym (member-and x full i) ∙ both) .0) (given i ∙ h)
+
+  -- S1: x lacks a number below m exactly where its part within `full` is not `full`
+  pub lacks-below : not (eqb (bitAnd x full) full) ≡ anyOf (λ i. not (has i)) (below m)
+  lacks-below = go (true-or-false (anyOf (λ i. not (has i)) (below m)))
+    where
+      go : (anyOf (λ i. not (has i)) (below m) ≡ true) ⊎ (anyOf (λ i. not (has i)) (below m) ≡ false)
+          → not (eqb (bitAnd x full) full) ≡ anyOf (λ i. not (has i)) (below m)
+      go (inl e) =
+          let r = some-below (λ i. not (has i)) m .0 e in
+          not-true _ .1 (eqb-false _ _ .1 (lacking (r .0) (r .1) (not-true _ .0 (r .2)))) ∙ sym e
+      go (inr e) = not-false _ .1 (eqb-true _ _ .1 (whole e)) ∙ sym e

@@ -6,7 +6,6 @@ use mathlib.Core.Bool.{true}
 use mathlib.Core.List.{List, [], _∷_, _++_, map, append-assoc, append-nil, List·Memᴰ, List·Memᴰ·head, List·Memᴰ·tail, Memᴰ·of-map, Memᴰ·map}
 use mathlib.Core.Option.{none}
 use Prim.Native.Nat.{ℕ, zero, suc, _+_, _-_, _*_, _/_, _%_, _^_, _<_, _≤_}
-use native.Mathlib.Nat.{add-comm, mul-suc}
 use native.Mathlib.Decide.{decLt}
 use native.Mathlib.Omega.{arith}
 use lib.ListN.{length, take, drop, getD, replicate, length-append, length-replicate}
@@ -14,7 +13,7 @@ use lib.Seq.{drop-at, drop-drop}
 use Rattle.sets.specs.Lists.{allOf, appendAll, upward, below}
 use Rattle.sets.specs.Bits.{member, members, membersFrom}
 use Rattle.sets.proofs.Bools.{not-both}
-use Rattle.sets.proofs.Lists.{allOf-elim, mem-below}
+use Rattle.sets.proofs.Lists.{allOf-elim, mem-below, list-below-at, joined-length}
 use Rattle.sets.proofs.Members.{member-lt}
 use Rattle.systems.specs.Lts.{visible}
 use Rattle.systems.specs.Tables.{Transition, Tables, ltsOf, systemOf, Fits, InOrder}
@@ -44,23 +43,6 @@ map-upward-length f i (suc k) = ap suc (map-upward-length f (suc i) k)
 map-below-length : (f : ℕ → List ℕ) (k : ℕ) → length (map f (below k)) ≡ k
 unfolding below
 map-below-length f k = map-upward-length f 0 k
-
-map-upward-at : (f : ℕ → List ℕ) (i k j : ℕ) → j < k → getD (map f (upward i k)) j [] ≡ f (i + j)
-unfolding upward
-map-upward-at f i (suc k) zero h = ap f (omega arith)
-map-upward-at f i (suc k) (suc j) h = map-upward-at f (suc i) k j (omega arith) ∙ ap f (omega arith)
-
-map-below-at : (f : ℕ → List ℕ) (k j : ℕ) → j < k → getD (map f (below k)) j [] ≡ f j
-unfolding below
-map-below-at f k j h = map-upward-at f 0 k j h ∙ ap f (omega arith)
-
--- lists of one length, joined
-joined-length : (k : ℕ) (ls : List (List ℕ)) → ((l : List ℕ) → List·Memᴰ l ls → length l ≡ k) → length (appendAll ls) ≡ k * length ls
-joined-length k [] h = omega arith
-joined-length k (l ∷ ls) h =
-    length-append l (appendAll ls)
-    ∙ ap₂ (λ (a b : ℕ). a + b) (h l (List·Memᴰ·head refl)) (joined-length k ls (λ x m. h x (List·Memᴰ·tail m)))
-    ∙ add-comm k (k * length ls) ∙ sym (mul-suc k (length ls))
 
 -- the same of what one function makes, and cut again
 each-length : (f : ℕ → List ℕ) (size k : ℕ) → ((j : ℕ) → length (f j) ≡ size)
@@ -199,7 +181,7 @@ module _ (n t s : ℕ) (some : 1 ≤ n) (few : n ≤ 16) (first : 1 ≤ t) (less
   record-at j h =
       sym (parts-at 16 n (largeFront n t) j h)
       ∙ ap (λ (l : List (List ℕ)). getD l j []) (made-cut largeRecord 16 n (appendAll (map largeTransition (below t))) record-length)
-      ∙ map-below-at largeRecord n j h
+      ∙ list-below-at largeRecord n j h
 
   record-field : (j k size : ℕ) → j < n → k + size ≤ 16 → field (16 * j + k) size (largeFront n t) ≡ field k size (largeRecord j)
   unfolding field

@@ -1,9 +1,9 @@
 // Writing a sheet section after section: each writer lends the rest of the output, from its middle on, to the writer of the next.
 ghost use mathlib.Core.Path.{_≡_};
-ghost use mathlib.Core.List.{_∷_, _++_};
-ghost use Prim.Native.Nat.{_+_, _*_, _<_, _≤_};
+ghost use mathlib.Core.List.{List, [], _∷_, _++_};
+ghost use Prim.Native.Nat.{ℕ, _+_, _*_, _<_, _≤_};
 ghost use lib.ListN.{length, take};
-ghost use Rattle.sheet.specs.Bounds.{stepSize, trailerSize, mostSteps};
+ghost use Rattle.sheet.specs.Bounds.{recordSize, transitionSize, stepSize, trailerSize, mostComponents, mostTransitions, mostSteps};
 ghost use Rattle.sheet.specs.Numbers.{bytes};
 ghost use Rattle.sheet.specs.Layout.{mark};
 ghost use Rattle.sheet.specs.Writing.{stepBytes, trailer, sheetOf};
@@ -36,6 +36,31 @@ fn put8(x: u64, out: &mut [u8])
     put4(x / 4294967296, &mut out[4..]);
 }
 
+// S3: writes the record of a component: state count, three zero bytes, initial set, alphabet; and gives back how many bytes it has.
+pub fn write_record(states: u8, initial: u64, alphabet: u64, out: &mut [u8]) -> usize
+    requires { ⌜ recordSize ≤ length (now out) ⌝ }
+    ensures { λ r. ⌜ (r ≡ recordSize)
+        × (now (out .exit) ≡ over (bytes 1 states ++ (bytes 3 0 ++ (bytes 4 initial ++ bytes 8 alphabet))) (now (out .entry))) ⌝ }
+{
+    put4(numbers::wide(states), out);
+    put4(initial, &mut out[4..]);
+    put8(alphabet, &mut out[8..]);
+    16
+}
+
+// S4: writes a transition, a byte for each of its numbers, and gives back how many bytes it has.
+pub fn write_transition(component: u8, source: u8, label: u8, target: u8, out: &mut [u8]) -> usize
+    requires { ⌜ transitionSize ≤ length (now out) ⌝ }
+    ensures { λ r. ⌜ (r ≡ transitionSize)
+        × (now (out .exit) ≡ over (component ∷ source ∷ label ∷ target ∷ []) (now (out .entry))) ⌝ }
+{
+    out[0] = component;
+    out[1] = source;
+    out[2] = label;
+    out[3] = target;
+    4
+}
+
 // Writes what a trailer ends with: the counts and the closing mark.
 fn write_counts(n: u8, m: u8, out: &mut [u8])
     requires { ⌜ 4 ≤ length (now out) ⌝ }
@@ -56,6 +81,15 @@ fn write_trailer(s: usize, n: u8, m: u8, out: &mut [u8])
     put2(16 * numbers::wide(n), &mut out[2..]);
     put2(s as u64, &mut out[4..]);
     write_counts(n, m, &mut out[6..]);
+}
+
+// S6, F4: closes a sheet without steps: the bytes before its trailer stand in the output already, and the rest is lent on.
+pub fn close_sheet(s: usize, n: u8, m: u8, out: &mut [u8])
+    requires { ⌜ (s < 65536) × (s + trailerSize ≤ length (now out)) ⌝ }
+    ensures { λ _. ⌜ ((front rest : List ℕ) → s ≡ length front → now (out .entry) ≡ over front rest
+        → now (out .exit) ≡ over (sheetOf front n m []) rest) ⌝ }
+{
+    write_trailer(s, n, m, &mut out[s..]);
 }
 
 // Writes `count` steps, and lends the rest to the writer of the trailer.
@@ -79,4 +113,12 @@ pub fn write_sheet(front: &[u8], packed: &[u64], count: usize, n: u8, m: u8, out
 {
     let s = bytes::copy(front, out);
     write_steps(packed, count, s, n, m, &mut out[s..]);
+}
+
+// B8, B9: how many bytes stand before the steps of a sheet with n components and so many transitions.
+pub fn front_length(n: usize, transitions: usize) -> usize
+    requires { ⌜ (n ≤ mostComponents) × (transitions ≤ mostTransitions) ⌝ }
+    ensures { λ r. ⌜ r ≡ recordSize * n + transitionSize * transitions ⌝ }
+{
+    16 * n + 4 * transitions
 }

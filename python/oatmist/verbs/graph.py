@@ -12,7 +12,7 @@ SUMMARY = "the components as graphs"
 
 
 def arguments(parser):
-    parser.add_argument("system", metavar="SYSTEM", help="a text of components, an .aut file or a sheet")
+    parser.add_argument("system", metavar="SYSTEM", help="a text of a system or a product, an .aut file or a sheet")
     parser.add_argument("-o", metavar="FILE", dest="output", help="FILE.svg or FILE.dot; else dot to standard output")
 
 

@@ -4,8 +4,9 @@ file or in two:
   oatmist make pair.txt -o pair.sheet
   oatmist make SYSTEM EXECUTION -o SHEET
 
-It does not ask whether the execution can be carried out: that is for 'mark'
-to say.
+The system may be a product that is given by its rows, which are its actions.
+Whether the execution can be carried out is not asked: that is for 'mark' to
+say.
 """
 import sys
 

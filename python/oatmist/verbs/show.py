@@ -1,4 +1,5 @@
-"""Shows a sheet or a text as a text, with every component by itself.
+"""Shows a sheet or a text as a text, with every component by itself. A product
+given by rows is shown as the system that it becomes.
 
 A sheet has no names. Components are called c0, c1 .., states s0 .., actions
 a0 .., unless --names gives a file over the same components and transitions;

@@ -1,0 +1,10 @@
+pub mod Transitions
+pub mod Records
+pub mod Alphabets
+pub mod Firing
+pub mod Independence
+pub mod Counts
+pub mod Accepted
+pub mod Executions
+pub mod Refusals
+pub mod WorkedProducts

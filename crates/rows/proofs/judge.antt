@@ -1,0 +1,4 @@
+mod Looking
+mod Alphabets
+mod Elements
+mod Answers

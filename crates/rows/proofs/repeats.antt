@@ -1,0 +1,3 @@
+pub mod Before
+mod Agreeing
+mod Repeated

@@ -1,0 +1,4 @@
+mod Places
+mod Leaving
+mod Upward
+pub mod Fronts
