@@ -1,28 +1,9 @@
-//! The lines of the benchmark about products given by rows (B5, B6, R15, R16, R17): the calls that are timed, and the products.
+//! The lines of the benchmark about products given by rows (B5, B6, R15, R16, R17): what each is made of.
 
+use crate::plain_rows;
 use crate::random_products::{self, Draft, Size, FULL, LARGE, MEDIUM, SMALL};
 use crate::sheets::{case_of, Dice};
-use crate::{agree_written, answered, fast_rows, plain_rows, Call, Row, Table};
-
-extern "C" {
-    fn oatmist_rows(product: &[u8], out: &mut [u8], answer: &mut [u64]) -> u64;
-}
-
-/// The two calls that are timed.
-const CALLS: [Call; 2] = [
-    |product, out| answered::<1>(|answer| unsafe { oatmist_rows(product, out, answer) }),
-    |product, out| answered::<1>(|answer| fast_rows::rows(product, out, answer)),
-];
-
-/// Both versions on one product; stops the run where they differ from each other or from the slow one.
-fn agree(name: &str, product: &[u8]) {
-    let meant = plain_rows::rows(product).map_err(|(number, _)| number);
-    let calls = [
-        |product: &[u8], out: &mut [u8], answer: &mut [u64]| unsafe { oatmist_rows(product, out, answer) },
-        fast_rows::rows,
-    ];
-    agree_written(name, product, &meant, calls);
-}
+use crate::tables::Line;
 
 /// The last row is the first once more.
 fn worst_repeated() -> Draft {
@@ -74,16 +55,7 @@ fn cases() -> Vec<(&'static str, Vec<Vec<u8>>)> {
     ]
 }
 
-/// The table; every product was tried before.
-pub fn table() -> Table {
-    let mut rows = Vec::new();
-    for (name, given) in cases() {
-        given.iter().for_each(|product| agree(name, product));
-        rows.push(Row::new(name.to_string(), given, &CALLS));
-    }
-    Table {
-        name: "Products".into(),
-        calls: &["rows"],
-        rows,
-    }
+/// The lines of the table of products.
+pub fn lines() -> Vec<Line> {
+    cases().into_iter().map(|(name, given)| (name.to_string(), given)).collect()
 }

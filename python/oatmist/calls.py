@@ -106,7 +106,7 @@ def check(sheet):
 
 def end_sets(sheet):
     """Where each component may be after the last step: for each the rising numbers of its states."""
-    return [bits(states) for states in ask("end_sets", COMPONENTS, sheet) if states]
+    return [list(bits(states)) for states in ask("end_sets", COMPONENTS, sheet) if states]
 
 
 def process(sheet):

@@ -58,7 +58,7 @@ def record_faults(sheet, j):
         if not given:
             yield f"has no {what}: give it one"
         if given >> limit:
-            yield f"has the {what} {bits(given)[-1]}: there are only {limit}, counted from 0"
+            yield f"has the {what} {given.bit_length() - 1}: there are only {limit}, counted from 0"
 
 
 def unused(sheet):

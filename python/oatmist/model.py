@@ -80,8 +80,10 @@ class Execution:
 
 
 def bits(number):
-    """The elements of a set that is stored as a number: bit i for element i; rising."""
-    return [i for i in range(number.bit_length()) if number >> i & 1]
+    """The elements of a set that is stored as a number, bit i for element i: the lowest, then those of the set without it."""
+    while number:
+        yield (number & -number).bit_length() - 1
+        number &= number - 1
 
 
 def number(elements):

@@ -96,7 +96,7 @@ def read_system(sheet):
 def read_execution(sheet):
     """The steps of a sheet."""
     section = step_section(sheet)
-    return Execution([bits(whole(section, place, STEP)) for place in range(0, len(section), STEP)])
+    return Execution([list(bits(whole(section, place, STEP))) for place in range(0, len(section), STEP)])
 
 
 def decode(sheet):

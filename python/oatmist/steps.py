@@ -49,7 +49,7 @@ class Steps:
         found = RAW.fullmatch(word or "")
         if not found:
             raise Fault(f"raw {quoted(word or '')}: write 0x and 1 to 16 hexadecimal digits")
-        return bits(int(found[1], 16))
+        return list(bits(int(found[1], 16)))
 
     def take_set(self, inner):
         if not inner.strip():

@@ -98,7 +98,8 @@ def expanded(lines):
         while i < len(lines) and lines[i].indent > line.indent:
             inner.append(lines[i])
             i += 1
-        for value in range(int(found[2]), int(found[3]) + 1):
+        first, last = int(found[2]), int(found[3])
+        for value in range(first, last + 1) if first <= last else range(first, last - 1, -1):
             here = [Line(at.number, at.indent, at.text.replace("$" + found[1], str(value))) for at in inner]
             texts += expanded(here)
     return texts

@@ -12,7 +12,9 @@ pub fn clashes(alphabets: &[u64], n: usize, step: u64) -> bool
     requires { ⌜ (n ≤ length (now alphabets)) × (step ≢ 0) ⌝ }
     ensures { λ r. ⌜ ((T : Tables) → Alphabets T n (now (alphabets .entry)) → r ≡ notApart T step) ⌝ }
 {
-    if sets::without_lowest(step) == 0 {
+    let mut others = step;
+    sets::take_lowest(&mut others);
+    if others == 0 {
         return false;
     }
     let mut found = false;
@@ -21,12 +23,12 @@ pub fn clashes(alphabets: &[u64], n: usize, step: u64) -> bool
         let mut left = step & alphabets[j];
         let mut seen = false;
         while left != 0 {
+            sets::take_lowest(&mut left);
             if seen {
                 found = true;
                 break 'components;
             }
             seen = true;
-            left = sets::without_lowest(left);
         }
         j += 1;
     }

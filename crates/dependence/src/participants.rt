@@ -14,9 +14,8 @@ fn enter(alphabet: u64, j: u32, found: &mut [u64])
 {
     let mut left = alphabet;
     while left != 0 {
-        let a = sets::lowest(left) as usize;
+        let a = sets::take_lowest(&mut left) as usize;
         found[a] = sets::with(found[a], j);
-        left = sets::without_lowest(left);
     }
 }
 

@@ -22,8 +22,7 @@ pub fn highest(mine: u64, from: usize, last: &[usize]) -> usize
     let mut at = from;
     let mut left = mine;
     while left != 0 {
-        at = larger(last[sets::lowest(left) as usize], at);
-        left = sets::without_lowest(left);
+        at = larger(last[sets::take_lowest(&mut left) as usize], at);
     }
     at
 }
@@ -35,7 +34,6 @@ pub fn raise(mine: u64, level: usize, last: &mut [usize])
 {
     let mut left = mine;
     while left != 0 {
-        last[sets::lowest(left) as usize] = level + 1;
-        left = sets::without_lowest(left);
+        last[sets::take_lowest(&mut left) as usize] = level + 1;
     }
 }

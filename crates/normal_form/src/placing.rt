@@ -47,8 +47,8 @@ pub fn place_step(
     let mut steps = count;
     let mut left = step;
     while left != 0 {
-        steps = place(participants, sets::lowest(left), steps, last, packed);
-        left = sets::without_lowest(left);
+        let a = sets::take_lowest(&mut left);
+        steps = place(participants, a, steps, last, packed);
     }
     steps
 }

@@ -97,8 +97,7 @@ fn put_members(x: u64, out: &mut [u8], at: usize) -> usize
     let mut to = at;
     let mut left = x;
     while left != 0 {
-        to = put_part(sets::lowest(left) as u64, out, to);
-        left = sets::without_lowest(left);
+        to = put_part(sets::take_lowest(&mut left) as u64, out, to);
     }
     to
 }

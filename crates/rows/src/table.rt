@@ -54,11 +54,10 @@ fn find_leaving(product: &[u8], column: Column, mine: u64, leaving: &mut [u64])
 {
     let mut left = mine;
     while left != 0 {
-        let g = sets::lowest(left);
+        let g = sets::take_lowest(&mut left);
         let at = transition_at(product, column, g);
         let q = product[at] as usize;
         leaving[q] = sets::with(leaving[q], g);
-        left = sets::without_lowest(left);
     }
 }
 
@@ -71,7 +70,7 @@ fn write_leaving(product: &[u8], column: Column, q: u8, rows: u64, out: &mut [u8
     let mut used = 0;
     let mut left = rows;
     while left != 0 {
-        let g = sets::lowest(left);
+        let g = sets::take_lowest(&mut left);
         let at = transition_at(product, column, g);
         used += writing::write_transition(
             column.j as u8,
@@ -80,7 +79,6 @@ fn write_leaving(product: &[u8], column: Column, q: u8, rows: u64, out: &mut [u8
             product[at + 1],
             &mut out[used..],
         );
-        left = sets::without_lowest(left);
     }
     used
 }

@@ -4,3 +4,5 @@ pub mod Members
 pub mod Counting
 pub mod LowestBit
 pub mod Filling
+pub mod Walks
+pub mod Demands

@@ -1,2 +1,4 @@
 pub mod Lists
 pub mod Bits
+pub mod Walk
+pub mod Demands

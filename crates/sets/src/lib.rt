@@ -2,12 +2,11 @@
 ghost use mathlib.Core.Path.{_≡_};
 ghost use mathlib.Core.Logic.{_≢_};
 ghost use mathlib.Core.Bool.{_||_};
-ghost use mathlib.Core.List.{_∷_};
-ghost use Prim.Native.Nat.{_<_, _≤_, _-_, _^_};
+ghost use Prim.Native.Nat.{_<_, _≤_, _^_};
 ghost use lib.Dec.{eqb, leb};
-ghost use lib.Bits.{bitAnd};
 ghost use lib.ListN.{length};
 ghost use Rattle.sets.specs.Bits.{member, members, with};
+ghost use Rattle.sets.specs.Walk.{Takes};
 
 // Whether i is an element of the set x.
 pub fn has(x: u64, i: u32) -> bool
@@ -25,20 +24,15 @@ pub fn with(x: u64, i: u32) -> u64
     (1u64 << i) | x
 }
 
-// The lowest element of a set that is not empty.
-pub fn lowest(x: u64) -> u32
-    requires { ⌜ x ≢ 0 ⌝ }
-    ensures { λ r. ⌜ (r < 64) × (members x ≡ r ∷ members (bitAnd x (x - 1))) ⌝ }
+// T1: takes the lowest element out of a set that is not empty, and leaves the others. Whoever goes over a set takes by this, again and
+// again.
+pub fn take_lowest(left: &mut u64) -> u32
+    requires { ⌜ now left ≢ 0 ⌝ }
+    ensures { λ r. ⌜ Takes (now (left .entry)) r (now (left .exit)) ⌝ }
 {
-    u64::trailing_zeros(x)
-}
-
-// The set without its lowest element.
-pub fn without_lowest(x: u64) -> u64
-    requires { ⌜ x ≢ 0 ⌝ }
-    ensures { λ r. ⌜ (r ≡ bitAnd x (x - 1)) × (r < x) ⌝ }
-{
-    x & (x - 1)
+    let lowest = u64::trailing_zeros(*left);
+    *left = *left & (*left - 1);
+    lowest
 }
 
 // How many elements the set has.

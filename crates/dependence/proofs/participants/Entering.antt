@@ -3,17 +3,18 @@
 use mathlib.Core.Path.{_≡_, sym, ap, _∙_}
 use mathlib.Core.Logic.{_↔_, _≢_, _⊎_, inl, inr}
 use mathlib.Core.Bool.{true, _||_}
-use mathlib.Core.List.{List, _∷_}
+use mathlib.Core.List.{List}
 use Prim.Native.Nat.{ℕ, suc, _≤_, _<_}
 use native.Mathlib.Nat.{lt-of-not-le, lt-of-lt-of-le}
 use native.Mathlib.Omega.{arith}
 use lib.Dec.{eqb}
 use lib.ListN.{length, getD, set, replicate, getD-replicate, List·getD-eq-default}
 use lib.Seq.{getD-set-same, getD-set-other}
-use Rattle.sets.specs.Bits.{member, members, with}
+use Rattle.sets.specs.Bits.{member, with}
+use Rattle.sets.specs.Walk.{Takes}
 use Rattle.sets.proofs.Bools.{not-both, or-true, eqb-true, equal-or-not}
 use Rattle.sets.proofs.Members.{member-zero, member-with, lt-members}
-use Rattle.sets.proofs.LowestBit.{lowest-or-rest}
+use Rattle.sets.proofs.Walks.{taken-or-left}
 use Rattle.systems.specs.Tables.{Tables}
 use Rattle.sheet.specs.Sections.{Alphabets}
 use Rattle.dependence.specs.participants.Participants.{participates, Participants, OfSixteen, ComponentEntered}
@@ -28,8 +29,11 @@ entered-none left j found e size =
       each = λ a h i. (inl, λ s. elim s [ inl m ↦ m | inr r ↦ absurd (not-both (r .1) (ap (λ (x : ℕ). member x a) e ∙ member-zero a)) ]);
     }
 
-module _ (left low rest j : ℕ) (found after : List ℕ) (size : length found ≡ 64) (low-lt : low < 64)
-    (first : members left ≡ low ∷ members rest) (v : ℕ) (val : v ≡ with j (getD found low 0)) (E : ComponentEntered rest j (set found low v) after) where
+module _ (left low rest j : ℕ) (found after : List ℕ) (size : length found ≡ 64) (t : Takes left low rest)
+    (v : ℕ) (val : v ≡ with j (getD found low 0)) (E : ComponentEntered rest j (set found low v) after) where
+  inside : low < length found
+  inside = let b = t .below in omega arith
+
   -- the entry of an action, once the lowest was entered
   then : (a i : ℕ) → (member (getD (set found low v) a 0) i ≡ true) ↔ ((member (getD found a 0) i ≡ true) ⊎ ((i ≡ j) × (a ≡ low)))
   then a i = go (equal-or-not a low)
@@ -39,7 +43,7 @@ module _ (left low rest j : ℕ) (found after : List ℕ) (size : length found �
         where
           here : member (getD (set found low v) a 0) i ≡ (eqb j i || member (getD found low 0) i)
           here =
-              ap (λ (x : ℕ). member x i) (ap (λ (k : ℕ). getD (set found low v) k 0) q ∙ getD-set-same found low v 0 (omega arith) ∙ val)
+              ap (λ (x : ℕ). member x i) (ap (λ (k : ℕ). getD (set found low v) k 0) q ∙ getD-set-same found low v 0 inside ∙ val)
               ∙ member-with j (getD found low 0) i
 
           there : (eqb j i ≡ true) ⊎ (member (getD found low 0) i ≡ true) → (member (getD found a 0) i ≡ true) ⊎ ((i ≡ j) × (a ≡ low))
@@ -60,15 +64,15 @@ module _ (left low rest j : ℕ) (found after : List ℕ) (size : length found �
     where
       there : (a : ℕ) → a < 64 → (i : ℕ) → (member (getD (set found low v) a 0) i ≡ true) ⊎ ((i ≡ j) × (member rest a ≡ true))
           → (member (getD found a 0) i ≡ true) ⊎ ((i ≡ j) × (member left a ≡ true))
-      there a h i (inr s) = inr (s .0, lowest-or-rest left low rest first a h .1 (inr (s .1)))
+      there a h i (inr s) = inr (s .0, taken-or-left t a .1 (inr (s .1)))
       there a h i (inl m) =
-          elim (then a i .0 m) [ inl p ↦ inl p | inr s ↦ inr (s .0, lowest-or-rest left low rest first a h .1 (inl (s .1))) ]
+          elim (then a i .0 m) [ inl p ↦ inl p | inr s ↦ inr (s .0, taken-or-left t a .1 (inl (s .1))) ]
 
       back : (a : ℕ) → a < 64 → (i : ℕ) → (member (getD found a 0) i ≡ true) ⊎ ((i ≡ j) × (member left a ≡ true))
           → (member (getD (set found low v) a 0) i ≡ true) ⊎ ((i ≡ j) × (member rest a ≡ true))
       back a h i (inl m) = inl (then a i .1 (inl m))
       back a h i (inr s) =
-          elim (lowest-or-rest left low rest first a h .0 (s .1)) [ inl q ↦ inl (then a i .1 (inr (s .0, q))) | inr m ↦ inr (s .0, m) ]
+          elim (taken-or-left t a .0 (s .1)) [ inl q ↦ inl (then a i .1 (inr (s .0, q))) | inr m ↦ inr (s .0, m) ]
 
 -- ---- alphabet by alphabet
 

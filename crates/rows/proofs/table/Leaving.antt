@@ -3,19 +3,20 @@
 use mathlib.Core.Path.{_≡_, refl, sym, ap, ap₂, _∙_, subst}
 use mathlib.Core.Logic.{_↔_, _⊎_, inl, inr}
 use mathlib.Core.Bool.{Bool, true, false, cond, _||_}
-use mathlib.Core.List.{List, [], _∷_, _++_, map, List·Memᴰ, List·Memᴰ·head, List·Memᴰ·cases-cons}
+use mathlib.Core.List.{List, [], _∷_, _++_, map}
 use mathlib.Core.Option.{Option, none, some, Option·none-ne-some, Option·some-injective}
 use Prim.Native.Nat.{ℕ, zero, suc, _+_, _-_, _<_, _≤_, zero-le}
 use native.Mathlib.Omega.{arith}
 use lib.Dec.{eqb}
-use lib.Bits.{bitAnd}
 use lib.ListN.{length, getD, set, replicate, length-set, length-replicate, getD-replicate}
 use lib.Seq.{getD-set-same, getD-set-other}
 use Rattle.sets.specs.Lists.{appendAll, keep, below, upward}
 use Rattle.sets.specs.Bits.{member, membersFrom, members, with}
-use Rattle.sets.proofs.Bools.{true-or-false, not-both, iff-bool, false-iff, and-true, or-true, eqb-true, eqb-false}
+use Rattle.sets.specs.Walk.{Takes}
+use Rattle.sets.proofs.Bools.{true-or-false, not-both, iff-bool, false-iff, or-true, eqb-true, eqb-false}
 use Rattle.sets.proofs.Lists.{rising-same, appendAll-append}
-use Rattle.sets.proofs.Members.{membersFrom-mem, membersFrom-rising, members-mem, members-rising, member-with, member-and, member-zero}
+use Rattle.sets.proofs.Members.{membersFrom-mem, membersFrom-rising, members-mem, members-rising, member-with, member-zero}
+use Rattle.sets.proofs.Walks.{taken-or-left}
 use Rattle.sheet.specs.Bounds.{mostStates}
 use Rattle.products.specs.Product.{Component, Product}
 use Rattle.products.specs.ProductBytes.{productOf}
@@ -111,17 +112,17 @@ row-written b j q g at T =
 abbrev pub Within : ℕ → ℕ → Type 0
 Within left rows = (g : ℕ) → member left g ≡ true → member rows g ≡ true
 
--- the first of them takes part
-pub first-mine : (b : List ℕ) (j q rows left low : ℕ) (rest : List ℕ) → LeavingSet b j q rows → Within left rows → members left ≡ low ∷ rest
-    → member (alphabet (productOf b) j) low ≡ true
-first-mine b j q rows left low rest told within e =
-    let r = told low .0 (within low (members-mem left low .0 (rw e (List·Memᴰ·head refl)) .1)) in
-    alphabet-rows (productOf b) j low .1 (r .0, (r .1 .0, r .1 .1))
+-- ---- one row, taken from those that are left (T1)
 
-pub within-rest : (left rest rows : ℕ) → rest ≡ bitAnd left (left - 1) → Within left rows → Within rest rows
-within-rest left rest rows e within g m =
-    let both = sym (member-and left (left - 1) g) ∙ ap (λ (y : ℕ). member y g) (sym e) ∙ m in
-    within g (and-true (member left g) (member (left - 1) g) .0 both .0)
+module _ {left low rest : ℕ} (t : Takes left low rest) (rows : ℕ) (within : Within left rows) where
+  -- the row that is taken is one of the component's
+  pub first-mine : (b : List ℕ) (j q : ℕ) → LeavingSet b j q rows → member (alphabet (productOf b) j) low ≡ true
+  first-mine b j q told =
+      let r = told low .0 (within low (t .own)) in
+      alphabet-rows (productOf b) j low .1 (r .0, (r .1 .0, r .1 .1))
+
+  pub within-rest : Within rest rows
+  within-rest g m = within g (t .rest g .0 m .0)
 
 -- ---- the table of the sets
 
@@ -143,20 +144,17 @@ leaving-none b j x l e f =
       all = λ q h g r. inr (ap (λ (y : ℕ). member y g) e ∙ alphabet-rows (productOf b) j g .1 (r .0, (r .1 .0, r .1 .1)));
     }
 
-module _ (b : List ℕ) (j left low rest at : ℕ) (l : List ℕ) (few : productOf b .rows ≤ 64) (F : LeavingSoFar b j left l)
-    (first : members left ≡ low ∷ members rest) (without : rest ≡ bitAnd left (left - 1)) (T : TransitionAt b j low at) where
+module _ (b : List ℕ) (j at : ℕ) (l : List ℕ) {left low rest : ℕ} (F : LeavingSoFar b j left l) (t : Takes left low rest)
+    (T : TransitionAt b j low at) where
   abbrev q₀ : ℕ
   q₀ = getD b at 0
 
   abbrev l' : List ℕ
   l' = set l q₀ (with low (getD l q₀ 0))
 
-  low-in : member left low ≡ true
-  low-in = members-mem left low .0 (rw first (List·Memᴰ·head refl)) .1
-
   -- the row leaves the state at whose set it is entered
   low-leaves : Leaves (productOf b) j q₀ low
-  low-leaves = (alphabet-rows (productOf b) j low .0 (F .mine low low-in) .0, (T .transition, T .taken, sym (T .source-told)))
+  low-leaves = (alphabet-rows (productOf b) j low .0 (F .mine low (t .own)) .0, (T .transition, T .taken, sym (T .source-told)))
 
   -- and no other state
   low-only : (q : ℕ) → Leaves (productOf b) j q low → q ≡ q₀
@@ -178,7 +176,7 @@ module _ (b : List ℕ) (j left low rest at : ℕ) (l : List ℕ) (few : product
   leaving-more =
       record {
         size = length-set l q₀ (with low (getD l q₀ 0)) ∙ F .size;
-        mine = λ g m. F .mine g (within-rest left rest left without (λ i n. n) g m);
+        mine = λ g m. F .mine g (t .rest g .0 m .0);
         only = λ q h g m. only-at q h g m (true-or-false (eqb q q₀));
         all = λ q h g r. all-at q h g r (F .all q h g r) (true-or-false (eqb q q₀));
       }
@@ -205,20 +203,18 @@ module _ (b : List ℕ) (j left low rest at : ℕ) (l : List ℕ) (few : product
           ap (λ (k : ℕ). member (getD l' k 0) g) s ∙ at-same g ∙ or-true (eqb low g) (member (getD l q₀ 0) g) .1 (inr n)
       kept q g m (inr e) = ap (λ (y : ℕ). member y g) (at-other q (eqb-false q q₀ .0 e)) ∙ m
 
-      still : (q g : ℕ) → Leaves (productOf b) j q g → (g ≡ low) ⊎ List·Memᴰ g (members rest)
+      still : (q g : ℕ) → Leaves (productOf b) j q g → (g ≡ low) ⊎ (member rest g ≡ true)
           → (member (getD l' q 0) g ≡ true) ⊎ (member rest g ≡ true)
       still q g r (inl e) =
           let s : q ≡ q₀ = low-only q (subst (Leaves (productOf b) j q) e r) in
           let n = eqb-true low g .1 (sym e) in
           inl (ap (λ (k : ℕ). member (getD l' k 0) g) s ∙ at-same g ∙ or-true (eqb low g) (member (getD l q₀ 0) g) .1 (inl n))
-      still q g r (inr m) = inr (members-mem rest g .0 m .1)
+      still q g r (inr m) = inr m
 
       all-at : (q : ℕ) → q < mostStates → (g : ℕ) → Leaves (productOf b) j q g → (member (getD l q 0) g ≡ true) ⊎ (member left g ≡ true)
           → (eqb q q₀ ≡ true) ⊎ (eqb q q₀ ≡ false) → (member (getD l' q 0) g ≡ true) ⊎ (member rest g ≡ true)
       all-at q h g r (inl m) w = inl (kept q g m w)
-      all-at q h g r (inr m) w =
-          let low-g = r .0 in
-          still q g r (List·Memᴰ·cases-cons (subst (λ (k : List ℕ). List·Memᴰ g k) first (members-mem left g .1 (omega arith, m))))
+      all-at q h g r (inr m) w = still q g r (taken-or-left t g .0 m)
 
 pub leaving-all : (b : List ℕ) (j left : ℕ) (l : List ℕ) → LeavingSoFar b j left l → left ≡ 0 → LeavingRows b j l
 leaving-all b j left l F e = record { size = F .size; each = λ q h g. (F .only q h g, λ r. done q g (F .all q h g r)) }

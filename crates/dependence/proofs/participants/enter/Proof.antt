@@ -1,11 +1,11 @@
 -- `participants::enter` meets its contract, which serves N3. The loop's invariant: once the actions that are left have been entered, all
 -- have. The measure is the set that is left, which falls. Assumes nothing.
-use mathlib.Core.Path.{_≡_, sym, ap, _∙_}
-use mathlib.Core.List.{List, _∷_}
+use mathlib.Core.Path.{_≡_, _∙_}
+use mathlib.Core.List.{List}
 use Prim.Native.Nat.{ℕ}
 use lib.ListN.{length, length-set}
 use borrow.Author.Needs.{needs}
-use Rattle.sets.specs.Bits.{members}
+use Rattle.sets.proofs.Walks.{left-less}
 use Rattle.dependence.specs.participants.Participants.{ComponentEntered}
 use Rattle.dependence.proofs.participants.Entering.{entered-none, entered-more}
 use Rattle.dependence.proofs.participants.enter.Statement.{statement}
@@ -20,15 +20,22 @@ abbrev μ-loop : tie.MeasureT-loop
 loop-holds : tie.Need-loop-holds Inv-loop μ-loop
 loop-holds c = (search needs, λ after E. E)
 
+slice-read-with : tie.Need-slice-read-with Inv-loop μ-loop
+slice-read-with c = let b = c .before .take-lowest .ensures .below in search needs
+
+slice-write-found : tie.Need-slice-write-found Inv-loop μ-loop
+slice-write-found c = let b = c .before .before .take-lowest .ensures .below in search needs
+
+loop-less : tie.Need-loop-less Inv-loop μ-loop
+loop-less c = left-less (c .before .before .take-lowest .ensures)
+
 loop-again : tie.Need-loop-again Inv-loop μ-loop
 loop-again c =
     let turn = c .before .before .before .before .before .loop in
-    let first = c .before .before .before .lowest in
-    let size = length-set (turn .found) (first .result) (c .before .with .result) ∙ turn .inv .0 in (
-      size,
-      λ after E. turn .inv .1 after (entered-more (turn .left) (first .result) (c .without-lowest .result) _ (turn .found) after (turn .inv .0)
-          (first .ensures .0) (first .ensures .1 ∙ ap (λ (x : ℕ). first .result ∷ members x) (sym (c .without-lowest .ensures .0))) (c .before .with .result)
-          (c .before .with .ensures) E),
+    let took = c .before .before .take-lowest in (
+      length-set (turn .found) (took .result) (c .with .result) ∙ turn .inv .0,
+      λ after E. turn .inv .1 after (entered-more (turn .left) (took .result) (took .last .0) _ (turn .found) after (turn .inv .0)
+          (took .ensures) (c .with .result) (c .with .ensures) E),
     )
 
 returns : tie.Need-returns Inv-loop μ-loop
@@ -44,12 +51,11 @@ enter-spec =
     (λ c κs. search needs)
     (λ c. search needs)
     (λ c. search needs)
-    (λ c. search needs)
+    slice-read-with
     (λ c κs. search needs)
     (λ c. search needs)
-    (λ c. search needs)
-    (λ c κs. search needs)
-    (λ c. search needs)
+    slice-write-found
+    loop-less
     loop-again
     (λ c. search needs)
     returns)

@@ -1,11 +1,11 @@
 -- `levels::highest` meets its contract, which serves N8. The loop's invariant: the larger of `at` and the entries of the components that
 -- are left is what is to be given back. The measure is the set that is left, which falls. Assumes nothing.
-use mathlib.Core.Path.{_≡_, refl, sym, ap, _∙_}
-use mathlib.Core.List.{_∷_}
-use Prim.Native.Nat.{ℕ, _^_, _<_, max}
+use mathlib.Core.Path.{_≡_, refl}
+use Prim.Native.Nat.{_^_, _<_, max}
 use native.Mathlib.Omega.{arith}
 use borrow.Author.Needs.{needs}
 use Rattle.sets.specs.Bits.{members}
+use Rattle.sets.proofs.Walks.{left-less}
 use Rattle.dependence.specs.participants.Levels.{largest}
 use Rattle.normal_form.proofs.levels.Walking.{first-below, largest-more, largest-none}
 use Rattle.normal_form.proofs.levels.highest.Statement.{statement}
@@ -23,19 +23,20 @@ loop-holds c = (c .before .pre .0, refl)
 
 shared-slice-read-larger : tie.Need-shared-slice-read-larger Inv-loop μ-loop
 shared-slice-read-larger c =
-    let turn = c .before .before .before .loop in
-    let size = c .before .before .before .before .before .pre .1 in
-    omega (arith, first-below (turn .left) (c .before .lowest .result) _ (turn .inv .0) (c .before .lowest .ensures .1))
+    let turn = c .before .before .before .before .loop in
+    let size = c .before .before .before .before .before .before .pre .1 in
+    omega (arith, first-below (turn .inv .0) (c .before .take-lowest .ensures))
+
+loop-less : tie.Need-loop-less Inv-loop μ-loop
+loop-less c = left-less (c .before .before .take-lowest .ensures)
 
 loop-again : tie.Need-loop-again Inv-loop μ-loop
 loop-again c =
-    let start = c .before .before .before .before .before .before .before .args in
     let turn = c .before .before .before .before .before .loop in
-    let first = c .before .before .before .lowest in (
+    let took = c .before .before .take-lowest in
+    let less = left-less (took .ensures) in (
       omega arith,
-      largest-more (start .last .now) (turn .left) (first .result) (c .without-lowest .result) (turn .at)
-          (c .before .larger .result) _ (first .ensures .1 ∙ ap (λ (x : ℕ). first .result ∷ members x) (sym (c .without-lowest .ensures .0)))
-          (c .before .larger .ensures) (turn .inv .1),
+      largest-more _ _ _ _ (took .ensures) (c .larger .ensures) (turn .inv .1),
     )
 
 returns : tie.Need-returns Inv-loop μ-loop
@@ -53,7 +54,6 @@ highest-spec =
     (λ c. search needs)
     shared-slice-read-larger
     (λ c κs. search needs)
-    (λ c κs. search needs)
-    (λ c. search needs)
+    loop-less
     loop-again
     returns)

@@ -1,12 +1,12 @@
 -- `levels::raise` meets its contract, which serves N8. The loop's invariant: once the components that are left have been marked, all have.
 -- The measure is the set that is left, which falls. Assumes nothing.
-use mathlib.Core.Path.{_≡_, sym, ap, _∙_}
-use mathlib.Core.List.{List, _∷_}
+use mathlib.Core.Path.{_≡_, _∙_}
+use mathlib.Core.List.{List}
 use Prim.Native.Nat.{ℕ, _^_, _<_}
 use native.Mathlib.Omega.{arith}
 use lib.ListN.{length, length-set}
 use borrow.Author.Needs.{needs}
-use Rattle.sets.specs.Bits.{members}
+use Rattle.sets.proofs.Walks.{left-less}
 use Rattle.normal_form.specs.levels.Levels.{LevelsRaised}
 use Rattle.normal_form.proofs.levels.Walking.{first-below, raised-none, raised-more}
 use Rattle.normal_form.proofs.levels.raise.Statement.{statement}
@@ -24,19 +24,21 @@ loop-holds c = (c .before .pre .0, c .before .pre .2, λ after M. M)
 
 slice-write-last : tie.Need-slice-write-last Inv-loop μ-loop
 slice-write-last c =
-    let turn = c .before .before .loop in
-    omega (arith, first-below (turn .left) (c .lowest .result) _ (turn .inv .0) (c .lowest .ensures .1))
+    let turn = c .before .before .before .loop in
+    omega (arith, first-below (turn .inv .0) (c .take-lowest .ensures))
+
+loop-less : tie.Need-loop-less Inv-loop μ-loop
+loop-less c = left-less (c .take-lowest .ensures)
 
 loop-again : tie.Need-loop-again Inv-loop μ-loop
 loop-again c =
     let turn = c .before .before .before .loop in
-    let level = c .before .before .before .before .before .args .level in
-    let first = c .before .lowest in
-    let fits = first-below (turn .left) (first .result) _ (turn .inv .0) (first .ensures .1) in (
+    let took = c .take-lowest in
+    let less = left-less (took .ensures) in
+    let fits = first-below (turn .inv .0) (took .ensures) in (
       omega arith,
-      length-set (turn .last) (first .result) _ ∙ turn .inv .1,
-      λ after M. turn .inv .2 after (raised-more (turn .left) (first .result) (c .without-lowest .result) level (turn .last) after (omega arith)
-          (first .ensures .1 ∙ ap (λ (x : ℕ). first .result ∷ members x) (sym (c .without-lowest .ensures .0))) M),
+      length-set (turn .last) (took .result) _ ∙ turn .inv .1,
+      λ after M. turn .inv .2 after (raised-more _ (turn .last) after (omega arith) (took .ensures) M),
     )
 
 returns : tie.Need-returns Inv-loop μ-loop
@@ -54,8 +56,7 @@ raise-spec =
     (λ c. search needs)
     (λ c. search needs)
     slice-write-last
-    (λ c κs. search needs)
-    (λ c. search needs)
+    loop-less
     loop-again
     (λ c. search needs)
     returns)

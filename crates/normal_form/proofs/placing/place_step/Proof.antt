@@ -2,9 +2,10 @@
 -- The measure is that set, which falls. Assumes nothing.
 use mathlib.Core.Path.{sym, ap, _∙_}
 use mathlib.Core.List.{[], _∷_}
-use Prim.Native.Nat.{ℕ}
+use borrow.Author.Needs.{needs}
 use Rattle.sets.specs.Bits.{members}
 use Rattle.sets.proofs.Members.{members-zero}
+use Rattle.sets.proofs.Walks.{taken-first, left-less}
 use Rattle.normal_form.specs.placing.Placing.{PlacesWord}
 use Rattle.normal_form.proofs.placing.Showing.{StillToPlace, to-place-none, part-room, to-place-rest}
 use Rattle.normal_form.proofs.placing.place_step.Statement.{statement}
@@ -22,34 +23,27 @@ loop-holds c =
     let pre = c .before .before .before .pre in
     record { last-size = pre .1; packed-size = pre .2; room = pre .3; finish = λ last packed count P. P }
 
-lowest-requires : tie.Need-lowest-requires Inv-loop μ-loop
-lowest-requires c κs = c .loop-test .taken
-
 place-requires : tie.Need-place-requires Inv-loop μ-loop
 place-requires c κs =
-    let pre = c .before .before .before .before .before .before .before .before .pre in
-    let R = c .before .before .before .before .loop .inv in
-    let first = c .before .before .lowest in (
-      pre .0,
+    let at = c .before .before .before .before .before in
+    let R = at .loop .inv in
+    let took = c .before .before .take-lowest in (
+      at .before .before .before .before .pre .0,
       R .last-size,
       R .packed-size,
-      first .ensures .0,
-      part-room _ _ _ _ _ _ (first .result ∷ []) _ (first .ensures .1) R,
+      took .ensures .below,
+      part-room _ _ _ _ _ _ (took .result ∷ []) _ (taken-first (took .ensures)) R,
     )
 
-without-lowest-requires : tie.Need-without-lowest-requires Inv-loop μ-loop
-without-lowest-requires c κs = c .before .before .before .before .before .before .before .before .loop-test .taken
-
 loop-less : tie.Need-loop-less Inv-loop μ-loop
-loop-less c = c .without-lowest .ensures .1
+loop-less c = left-less (c .before .before .before .before .before .before .before .take-lowest .ensures)
 
 loop-again : tie.Need-loop-again Inv-loop μ-loop
 loop-again c =
     let R = c .before .before .before .before .before .before .before .before .before .before .loop .inv in
-    let first = c .before .before .before .before .before .before .before .before .lowest in
-    let placed = c .before .before .before .before .before .place in
-    to-place-rest _ _ _ _ _ _ (first .result ∷ []) (members (c .without-lowest .result))
-    (first .ensures .1 ∙ ap (λ (x : ℕ). first .result ∷ members x) (sym (c .without-lowest .ensures .0))) R _ _ _ (placed .ensures)
+    let took = c .before .before .before .before .before .before .before .take-lowest in
+    let placed = c .before .before .before .before .place in
+    to-place-rest _ _ _ _ _ _ (took .result ∷ []) (members (took .last .0)) (taken-first (took .ensures)) R _ _ _ (placed .ensures)
     (placed .kept .1 .1 .1 .0) (placed .kept .1 .1 .1 .1 .0)
 
 same-length : tie.Need-same-length Inv-loop μ-loop
@@ -68,9 +62,8 @@ place-step-spec =
     Inv-loop
     μ-loop
     loop-holds
-    lowest-requires
+    (λ c κs. search needs)
     place-requires
-    without-lowest-requires
     loop-less
     loop-again
     same-length

@@ -1,15 +1,12 @@
 -- `table::find_leaving` meets its contract (B9). The loop's invariant: of the rows those of `left` are still to be entered.
 -- The measure is the set that is left, which falls. Assumes nothing.
-use mathlib.Core.Path.{refl, sym, ap, _∙_}
-use mathlib.Core.List.{_∷_, List·Memᴰ·head}
+use mathlib.Core.Path.{sym, ap, _∙_}
 use Prim.Native.Nat.{ℕ}
 use native.Mathlib.Omega.{arith}
 use lib.ListN.{length, length-replicate}
 use borrow.Author.Needs.{needs}
-use Rattle.sets.specs.Bits.{members}
-use Rattle.sets.proofs.Members.{members-mem}
+use Rattle.sets.proofs.Walks.{left-less}
 use Rattle.sheet.specs.Bounds.{mostStates}
-use Rattle.rows.proofs.table.Places.{rows-few}
 use Rattle.rows.proofs.table.Leaving.{LeavingSoFar, leaving-none, leaving-more, leaving-all}
 use Rattle.rows.proofs.table.find_leaving.Statement.{statement}
 use Rattle.rows.proofs.table.find_leaving.Tie as tie
@@ -30,10 +27,9 @@ loop-holds c =
 
 transition-at-requires : tie.Need-transition-at-requires Inv-loop μ-loop
 transition-at-requires c κs =
-    let l = c .before .before .loop in
-    let low = c .lowest in
-    let is-left = members-mem (l .left) (low .result) .0 (rw (low .ensures .1) (List·Memᴰ·head refl)) .1 in
-    (start (c .before .before) .pre .0, l .inv .mine (low .result) is-left)
+    let at = c .before .before .before in
+    let took = c .take-lowest in
+    (start at .pre .0, at .loop .inv .mine (took .result) (took .ensures .own))
 
 shared-slice-read-q : tie.Need-shared-slice-read-q Inv-loop μ-loop
 shared-slice-read-q c = let i = c .before .transition-at .ensures .inside in omega arith
@@ -47,11 +43,11 @@ mul-with c = let few = c .before .transition-at .ensures .source-few in search n
 slice-read-with : tie.Need-slice-read-with Inv-loop μ-loop
 slice-read-with c =
     let few = c .before .before .transition-at .ensures .source-few in
-    let long = c .before .before .before .before .before .loop .inv .size in
+    let long = c .before .before .before .before .before .before .loop .inv .size in
     omega arith
 
 with-requires : tie.Need-with-requires Inv-loop μ-loop
-with-requires c κs = c .before .before .before .lowest .ensures .0
+with-requires c κs = c .before .before .before .take-lowest .ensures .below
 
 mul-leaving : tie.Need-mul-leaving Inv-loop μ-loop
 mul-leaving c = let few = c .before .before .before .transition-at .ensures .source-few in search needs
@@ -59,26 +55,20 @@ mul-leaving c = let few = c .before .before .before .transition-at .ensures .sou
 slice-write-leaving : tie.Need-slice-write-leaving Inv-loop μ-loop
 slice-write-leaving c =
     let few = c .before .before .before .transition-at .ensures .source-few in
-    let long = c .before .before .before .before .before .before .loop .inv .size in
+    let long = c .before .before .before .before .before .before .before .loop .inv .size in
     omega arith
 
 loop-less : tie.Need-loop-less Inv-loop μ-loop
-loop-less c = search needs
+loop-less c = left-less (c .before .before .before .before .take-lowest .ensures)
 
 loop-again : tie.Need-loop-again Inv-loop μ-loop
 loop-again c =
-    let found = c .before .before .before .before in
-    let low = found .before .lowest in
-    let at = found .before .before .before in
-    let s = start at in
-    let a = s .args in
-    let rest = c .without-lowest in
-    let first = low .ensures .1 ∙ ap (λ (x : ℕ). low .result ∷ members x) (sym (rest .ensures .0)) in
-    let b = a .product .now in
-    let few = rows-few b (s .pre .0 .well-formed) in
-    rw (c .before .with .ensures)
-    (leaving-more b (a .column .j) (at .loop .left) (low .result) (rest .result) (found .transition-at .result) (at .loop .leaving) few
-    (at .loop .inv) first (rest .ensures .0) (found .transition-at .ensures))
+    let found = c .before .before .before in
+    let at = found .before .before .before .before in
+    let a = start at .args in
+    rw (c .with .ensures)
+    (leaving-more (a .product .now) (a .column .j) (found .transition-at .result) (at .loop .leaving) (at .loop .inv)
+    (found .before .take-lowest .ensures) (found .transition-at .ensures))
 
 same-length : tie.Need-same-length Inv-loop μ-loop
 same-length c = c .before .loop .inv .size ∙ sym (ap length (start (c .before) .pre .2) ∙ length-replicate {A = ℕ} mostStates 0)
@@ -102,7 +92,6 @@ find-leaving-spec =
     with-requires
     mul-leaving
     slice-write-leaving
-    (λ c κs. search needs)
     loop-less
     loop-again
     same-length

@@ -9,6 +9,7 @@ use borrow.Author.Needs.{needs}
 use Rattle.sets.specs.Lists.{appendAll}
 use Rattle.sets.specs.Bits.{members}
 use Rattle.sets.proofs.Members.{members-zero}
+use Rattle.sets.proofs.Walks.{taken-first, left-less}
 use Rattle.sheet.specs.Bounds.{transitionSize}
 use Rattle.writing.proofs.Sections.{StillToWrite, to-write-all, to-write-length, to-write-used}
 use Rattle.writing.proofs.Sections.{to-write-room, to-write-lent, to-write-more, to-write-end}
@@ -48,24 +49,23 @@ loop-holds c =
 
 transition-at-requires : tie.Need-transition-at-requires Inv-loop μ-loop
 transition-at-requires c κs =
-    let at = c .before .before in
+    let at = c .before .before .before in
     let s = start at in
     let a = s .args in (
       s .pre .0,
-      first-mine (a .product .now) (a .column .j) (a .q) (a .rows) (at .loop .left) (c .lowest .result) _ (s .pre .1) (at .loop .inv .0)
-          (c .lowest .ensures .1),
+      first-mine (c .take-lowest .ensures) (a .rows) (at .loop .inv .0) (a .product .now) (a .column .j) (a .q) (s .pre .1),
     )
 
 cast-write-transition : tie.Need-cast-write-transition Inv-loop μ-loop
 cast-write-transition c =
-    let s = start (c .before .before .before .before) in
+    let s = start (c .before .before .before .before .before) in
     let low = s .pre .0 .component-below in
     let few = s .pre .0 .well-formed .components-high in
     let small : s .args .column .j < 256 = omega arith in
     search needs
 
 cast-write-transition-2 : tie.Need-cast-write-transition-2 Inv-loop μ-loop
-cast-write-transition-2 c = let l = c .before .before .lowest .ensures .0 in search needs
+cast-write-transition-2 c = let l = c .before .before .take-lowest .ensures .below in search needs
 
 add-write-transition : tie.Need-add-write-transition Inv-loop μ-loop
 add-write-transition c = let i = c .before .transition-at .ensures .inside in search needs
@@ -74,52 +74,54 @@ shared-slice-read-write-transition : tie.Need-shared-slice-read-write-transition
 shared-slice-read-write-transition c = let i = c .before .before .transition-at .ensures .inside in omega arith
 
 sub-write-transition : tie.Need-sub-write-transition Inv-loop μ-loop
-sub-write-transition c = to-write-used (c .before .before .before .before .before .loop .inv .1)
+sub-write-transition c = to-write-used (c .before .before .before .before .before .before .loop .inv .1)
 
 part-write-transition-start : tie.Need-part-write-transition-start Inv-loop μ-loop
-part-write-transition-start c = let u = to-write-used (c .before .before .before .before .before .loop .inv .1) in search needs
+part-write-transition-start c = let u = to-write-used (c .before .before .before .before .before .before .loop .inv .1) in search needs
 
 part-write-transition-end : tie.Need-part-write-transition-end Inv-loop μ-loop
-part-write-transition-end c = let u = to-write-used (c .before .before .before .before .before .loop .inv .1) in search needs
+part-write-transition-end c = let u = to-write-used (c .before .before .before .before .before .before .loop .inv .1) in search needs
 
 write-transition-requires : tie.Need-write-transition-requires Inv-loop μ-loop
 write-transition-requires c κs =
-    let low = c .before .before .before .before .lowest in
-    let at = c .before .before .before .before .before .before in
+    let low = c .before .before .before .before .take-lowest in
+    let at = c .before .before .before .before .before .before .before in
     let a = start at .args in
     let b = a .product .now in
     to-write-lent (at .loop .inv .1) (rowTransition (productOf b) (a .column .j) (a .q) (low .result)) _
-    (next-row b (a .column .j) (a .q) (low .ensures .1))
+    (next-row b (a .column .j) (a .q) (taken-first (low .ensures)))
 
 add-used : tie.Need-add-used Inv-loop μ-loop
 add-used c =
-    let low = c .before .before .before .before .before .before .before .lowest in
-    let at = c .before .before .before .before .before .before .before .before .before in
+    let low = c .before .before .before .before .before .before .before .take-lowest in
+    let at = c .before .before .before .before .before .before .before .before .before .before in
     let a = start at .args in
     let b = a .product .now in
     let room : at .loop .used + transitionSize ≤ length (at .loop .out) =
     to-write-room (at .loop .inv .1) (rowTransition (productOf b) (a .column .j) (a .q) (low .result)) _
-    (next-row b (a .column .j) (a .q) (low .ensures .1)) in
+    (next-row b (a .column .j) (a .q) (taken-first (low .ensures))) in
     let same = to-write-length (at .loop .inv .1) in
     let size = c .before .before .write-transition .ensures .0 in
     search needs
 
+loop-less : tie.Need-loop-less Inv-loop μ-loop
+loop-less c = left-less (c .before .before .before .before .before .before .before .take-lowest .ensures)
+
 loop-again : tie.Need-loop-again Inv-loop μ-loop
 loop-again c =
-    let wrote = c .before .before .before in
+    let wrote = c .before .before in
     let found = wrote .before .before .before .before in
-    let low = found .before .lowest in
-    let at = found .before .before .before in
+    let low = found .before .take-lowest in
+    let at = found .before .before .before .before in
     let a = start at .args in
     let b = a .product .now in
     let j = a .column .j in
     let place = found .transition-at .result in
-    let rest = c .without-lowest in
-    let first = low .ensures .1 ∙ ap (λ (x : ℕ). low .result ∷ members x) (sym (rest .ensures .0)) in
+    let rest = text b j (a .q) (members (low .last .0)) in
     let row = sym (row-written b j (a .q) (low .result) place (found .transition-at .ensures)) in (
-      within-rest (at .loop .left) (rest .result) (a .rows) (rest .ensures .0) (at .loop .inv .0),
-      to-write-more (at .loop .inv .1) (j ∷ a .q ∷ low .result ∷ getD b (place + 1) 0 ∷ []) (text b j (a .q) (members (rest .result)))
-          (next-row b j (a .q) first ∙ ap (λ (l : List ℕ). l ++ text b j (a .q) (members (rest .result))) row)
+      within-rest (low .ensures) (a .rows) (at .loop .inv .0),
+      to-write-more (at .loop .inv .1) (j ∷ a .q ∷ low .result ∷ getD b (place + 1) 0 ∷ []) rest
+          (next-row b j (a .q) (taken-first (low .ensures)) ∙ ap (λ (l : List ℕ). l ++ rest) row)
           refl (wrote .write-transition .ensures .1) (wrote .write-transition .ensures .0),
     )
 
@@ -150,8 +152,7 @@ write-leaving-spec =
     part-write-transition-end
     write-transition-requires
     add-used
-    (λ c κs. search needs)
-    (λ c. search needs)
+    loop-less
     loop-again
     same-length
     returns)

@@ -1,0 +1,186 @@
+//! An older library against the present one: the same sheets and products, one run (see tables.rs). Before anything is
+//! timed, every call of both answers and writes the same on them, and on random sheets, pairs and products.
+//!
+//! Usage: against [SWEEPS]
+
+// Slices are passed to the library as they are to C: a pointer and a length.
+#![allow(improper_ctypes_definitions)]
+
+#[allow(dead_code)]
+#[path = "../tests/second/plain.rs"]
+mod plain;
+#[allow(dead_code)]
+#[path = "../tests/second/plain_rows.rs"]
+mod plain_rows;
+mod product_lines;
+#[allow(dead_code)]
+#[path = "../tests/second/random_products.rs"]
+mod random_products;
+mod sheet_lines;
+#[allow(dead_code)]
+#[path = "../tests/second/sheets.rs"]
+mod sheets;
+mod tables;
+#[allow(dead_code)]
+#[path = "../tests/second/tally.rs"]
+mod tally;
+
+use sheets::Dice;
+use tables::{answered, Kind, Versions, KEPT, ROOM};
+
+/// The calls of a library whose names begin with this.
+macro_rules! library {
+    ($name:ident, $begin:literal) => {
+        mod $name {
+            extern "C" {
+                #[link_name = concat!($begin, "check")]
+                pub fn check(sheet: &[u8], answer: &mut [u64]) -> u64;
+                #[link_name = concat!($begin, "end_sets")]
+                pub fn end_sets(sheet: &[u8], ends: &mut [u64]) -> u64;
+                #[link_name = concat!($begin, "process")]
+                pub fn process(sheet: &[u8], answer: &mut [u64]) -> u64;
+                #[link_name = concat!($begin, "figure")]
+                pub fn figure(sheet: &[u8], answer: &mut [u64]) -> u64;
+                #[link_name = concat!($begin, "stuck")]
+                pub fn stuck(sheet: &[u8], answer: &mut [u64]) -> u64;
+                #[link_name = concat!($begin, "restate")]
+                pub fn restate(sheet: &[u8], out: &mut [u8], answer: &mut [u64]) -> u64;
+                #[link_name = concat!($begin, "report")]
+                pub fn report(sheet: &[u8], out: &mut [u8], answer: &mut [u64]) -> u64;
+                #[link_name = concat!($begin, "rows")]
+                pub fn rows(product: &[u8], out: &mut [u8], answer: &mut [u64]) -> u64;
+                #[link_name = concat!($begin, "same_work")]
+                pub fn same_work(first: &[u8], second: &[u8], answer: &mut [u64]) -> u64;
+                #[link_name = concat!($begin, "winner")]
+                pub fn winner(first: &[u8], second: &[u8], answer: &mut [u64]) -> u64;
+                #[link_name = concat!($begin, "leaner")]
+                pub fn leaner<'a>(first: &'a [u8], second: &'a [u8], part: &mut &'a [u8]);
+            }
+        }
+    };
+}
+
+library!(old, "old_oatmist_");
+library!(new, "oatmist_");
+
+/// The calls that are timed.
+const VERSIONS: Versions = Versions {
+    names: ["old", "new"],
+    ours: 1,
+    on_sheets: Kind {
+        calls: &[
+            |sheet, _| answered::<4>(|answer| unsafe { old::check(sheet, answer) }),
+            |sheet, _| answered::<4>(|answer| unsafe { new::check(sheet, answer) }),
+            |sheet, out| answered::<1>(|answer| unsafe { old::restate(sheet, out, answer) }),
+            |sheet, out| answered::<1>(|answer| unsafe { new::restate(sheet, out, answer) }),
+        ],
+        agree: agree_on_sheet,
+    },
+    on_products: Kind {
+        calls: &[
+            |product, out| answered::<1>(|answer| unsafe { old::rows(product, out, answer) }),
+            |product, out| answered::<1>(|answer| unsafe { new::rows(product, out, answer) }),
+        ],
+        agree: agree_on_product,
+    },
+    agree_beyond: agree_on_random,
+};
+
+// ---------------------------------------------------------------------------------------------
+// The same answers
+
+/// What the old and the new call left; stops the run where it differs.
+fn agree<T: PartialEq>(name: &str, given: &[&[u8]], left: [T; 2]) {
+    if left[0] != left[1] {
+        let given: Vec<String> = given.iter().map(|bytes| tally::hex(bytes)).collect();
+        panic!("{name}: the old and the new library differ on {}", given.join(" and "));
+    }
+}
+
+/// What a call returned, and all entries of the array that it was lent: one more than any call fills.
+fn valued(call: impl FnOnce(&mut [u64]) -> u64) -> (u64, [u64; 17]) {
+    let mut answer = [KEPT; 17];
+    (call(&mut answer), answer)
+}
+
+/// Every call on one sheet.
+fn agree_on_sheet(name: &str, sheet: &[u8]) {
+    type Reader = unsafe extern "C" fn(&[u8], &mut [u64]) -> u64;
+    let calls: [(&str, [Reader; 2]); 5] = [
+        ("check", [old::check, new::check]),
+        ("end sets", [old::end_sets, new::end_sets]),
+        ("process check", [old::process, new::process]),
+        ("figure", [old::figure, new::figure]),
+        ("stuck", [old::stuck, new::stuck]),
+    ];
+    for (call, versions) in calls {
+        let left = versions.map(|version| valued(|answer| unsafe { version(sheet, answer) }));
+        agree(&format!("{name}, {call}"), &[sheet], left);
+    }
+    agree_written(&format!("{name}, restate"), sheet, [old::restate, new::restate]);
+    agree_written(&format!("{name}, report"), sheet, [old::report, new::report]);
+}
+
+fn agree_on_product(name: &str, product: &[u8]) {
+    agree_written(&format!("{name}, rows"), product, [old::rows, new::rows]);
+}
+
+type Writer = unsafe extern "C" fn(&[u8], &mut [u8], &mut [u64]) -> u64;
+
+/// A call that writes: with enough room, exactly enough, and a byte too little.
+fn agree_written(name: &str, given: &[u8], versions: [Writer; 2]) {
+    let written = |version: Writer, room| {
+        let mut out = vec![0xa5; room];
+        (valued(|answer| unsafe { version(given, &mut out, answer) }), out)
+    };
+    let needed = match written(versions[0], ROOM).0 {
+        (0, answer) => answer[0] as usize,
+        _ => ROOM,
+    };
+    for room in [ROOM, needed, needed - 1] {
+        let left = versions.map(|version| written(version, room));
+        agree(&format!("{name} into {room}"), &[given], left);
+    }
+}
+
+/// Every call on two sheets.
+fn agree_on_pair(name: &str, first: &[u8], second: &[u8]) {
+    type OfTwo = unsafe extern "C" fn(&[u8], &[u8], &mut [u64]) -> u64;
+    let calls: [(&str, [OfTwo; 2]); 2] = [
+        ("same work", [old::same_work, new::same_work]),
+        ("winner", [old::winner, new::winner]),
+    ];
+    for (call, versions) in calls {
+        let left = versions.map(|version| valued(|answer| unsafe { version(first, second, answer) }));
+        agree(&format!("{name}, {call}"), &[first, second], left);
+    }
+    type Leaner = for<'a> unsafe extern "C" fn(&'a [u8], &'a [u8], &mut &'a [u8]);
+    let versions: [Leaner; 2] = [old::leaner, new::leaner];
+    let left = versions.map(|version| {
+        let mut part: &[u8] = &[];
+        unsafe { version(first, second, &mut part) };
+        (part.len(), (!part.is_empty()).then_some(part.as_ptr()))
+    });
+    agree(&format!("{name}, leaner"), &[first, second], left);
+}
+
+/// How many random sheets there are, and as many pairs and products.
+const RANDOM: usize = 6_000;
+
+fn agree_on_random() {
+    let mut dice = Dice::new(14);
+    for number in 0..RANDOM {
+        let case = sheets::case(&mut dice, number);
+        agree_on_sheet(case.kind, &case.bytes);
+        let (first, second, _) = sheets::two_sheets(&mut dice, number);
+        agree_on_pair("pair", &first, &second);
+        let case = sheets::case_of(random_products::KINDS, &mut dice, number);
+        agree_on_product(case.kind, &case.bytes);
+    }
+    println!("Every call of both answers and writes the same on {RANDOM} random sheets, pairs and products each.");
+}
+
+fn main() {
+    let tables = VERSIONS.measured();
+    tables.iter().for_each(|table| VERSIONS.print(table));
+}
