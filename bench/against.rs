@@ -1,18 +1,26 @@
-//! An older library against the present one: the same sheets and products, one run (see tables.rs). Before anything is
-//! timed, every call of both answers and writes the same on them, and on random sheets, pairs and products.
+//! An older library against the present one: the same sheets, products and columns, one run (see tables.rs). Before anything
+//! is timed, every call of both answers and writes the same on them, and on random sheets, pairs, products and columns.
+//! Columns are left out where the older library does not have them: it is built with `--cfg columns` where it does.
 //!
 //! Usage: against [SWEEPS]
 
 // Slices are passed to the library as they are to C: a pointer and a length.
 #![allow(improper_ctypes_definitions)]
 
+mod column_lines;
 #[allow(dead_code)]
 #[path = "../tests/second/plain.rs"]
 mod plain;
 #[allow(dead_code)]
+#[path = "../tests/second/plain_columns.rs"]
+mod plain_columns;
+#[allow(dead_code)]
 #[path = "../tests/second/plain_rows.rs"]
 mod plain_rows;
 mod product_lines;
+#[allow(dead_code)]
+#[path = "../tests/second/random_columns.rs"]
+mod random_columns;
 #[allow(dead_code)]
 #[path = "../tests/second/random_products.rs"]
 mod random_products;
@@ -20,13 +28,14 @@ mod sheet_lines;
 #[allow(dead_code)]
 #[path = "../tests/second/sheets.rs"]
 mod sheets;
+#[cfg_attr(not(columns), allow(dead_code))]
 mod tables;
 #[allow(dead_code)]
 #[path = "../tests/second/tally.rs"]
 mod tally;
 
 use sheets::Dice;
-use tables::{answered, Kind, Versions, KEPT, ROOM};
+use tables::{answered, Input, Kind, Versions, KEPT, ROOM};
 
 /// The calls of a library whose names begin with this.
 macro_rules! library {
@@ -49,6 +58,9 @@ macro_rules! library {
                 pub fn report(sheet: &[u8], out: &mut [u8], answer: &mut [u64]) -> u64;
                 #[link_name = concat!($begin, "rows")]
                 pub fn rows(product: &[u8], out: &mut [u8], answer: &mut [u64]) -> u64;
+                #[cfg(columns)]
+                #[link_name = concat!($begin, "columns")]
+                pub fn columns(sheet: &[u8], columns: &[u8], out: &mut [u8], answer: &mut [u64]) -> u64;
                 #[link_name = concat!($begin, "same_work")]
                 pub fn same_work(first: &[u8], second: &[u8], answer: &mut [u64]) -> u64;
                 #[link_name = concat!($begin, "winner")]
@@ -69,22 +81,35 @@ const VERSIONS: Versions = Versions {
     ours: 1,
     on_sheets: Kind {
         calls: &[
-            |sheet, _| answered::<4>(|answer| unsafe { old::check(sheet, answer) }),
-            |sheet, _| answered::<4>(|answer| unsafe { new::check(sheet, answer) }),
-            |sheet, out| answered::<1>(|answer| unsafe { old::restate(sheet, out, answer) }),
-            |sheet, out| answered::<1>(|answer| unsafe { new::restate(sheet, out, answer) }),
+            |given, _| answered::<4>(|answer| unsafe { old::check(&given.bytes, answer) }),
+            |given, _| answered::<4>(|answer| unsafe { new::check(&given.bytes, answer) }),
+            |given, out| answered::<1>(|answer| unsafe { old::restate(&given.bytes, out, answer) }),
+            |given, out| answered::<1>(|answer| unsafe { new::restate(&given.bytes, out, answer) }),
         ],
-        agree: agree_on_sheet,
+        agree: |name, given| agree_on_sheet(name, &given.bytes),
     },
     on_products: Kind {
         calls: &[
-            |product, out| answered::<1>(|answer| unsafe { old::rows(product, out, answer) }),
-            |product, out| answered::<1>(|answer| unsafe { new::rows(product, out, answer) }),
+            |given, out| answered::<1>(|answer| unsafe { old::rows(&given.bytes, out, answer) }),
+            |given, out| answered::<1>(|answer| unsafe { new::rows(&given.bytes, out, answer) }),
         ],
-        agree: agree_on_product,
+        agree: |name, given| agree_on_product(name, &given.bytes),
     },
+    on_columns: ON_COLUMNS,
     agree_beyond: agree_on_random,
 };
+
+#[cfg(columns)]
+const ON_COLUMNS: Option<Kind> = Some(Kind {
+    calls: &[
+        |given, out| answered::<1>(|answer| unsafe { old::columns(&given.bytes, &given.columns, out, answer) }),
+        |given, out| answered::<1>(|answer| unsafe { new::columns(&given.bytes, &given.columns, out, answer) }),
+    ],
+    agree: agree_on_columns,
+});
+
+#[cfg(not(columns))]
+const ON_COLUMNS: Option<Kind> = None;
 
 // ---------------------------------------------------------------------------------------------
 // The same answers
@@ -117,21 +142,36 @@ fn agree_on_sheet(name: &str, sheet: &[u8]) {
         let left = versions.map(|version| valued(|answer| unsafe { version(sheet, answer) }));
         agree(&format!("{name}, {call}"), &[sheet], left);
     }
-    agree_written(&format!("{name}, restate"), sheet, [old::restate, new::restate]);
-    agree_written(&format!("{name}, report"), sheet, [old::report, new::report]);
+    agree_on_written(&format!("{name}, restate"), sheet, [old::restate, new::restate]);
+    agree_on_written(&format!("{name}, report"), sheet, [old::report, new::report]);
 }
 
 fn agree_on_product(name: &str, product: &[u8]) {
-    agree_written(&format!("{name}, rows"), product, [old::rows, new::rows]);
+    agree_on_written(&format!("{name}, rows"), product, [old::rows, new::rows]);
 }
 
-type Writer = unsafe extern "C" fn(&[u8], &mut [u8], &mut [u64]) -> u64;
+#[cfg(columns)]
+fn agree_on_columns(name: &str, given: &Input) {
+    let versions: [Writer; 2] = [
+        &|out, answer| unsafe { old::columns(&given.bytes, &given.columns, out, answer) },
+        &|out, answer| unsafe { new::columns(&given.bytes, &given.columns, out, answer) },
+    ];
+    agree_written(&format!("{name}, columns"), &[&given.bytes, &given.columns], versions);
+}
+
+/// A call that writes, of one sheet or product.
+fn agree_on_written(name: &str, given: &[u8], versions: [unsafe extern "C" fn(&[u8], &mut [u8], &mut [u64]) -> u64; 2]) {
+    let calls = versions.map(|version| move |out: &mut [u8], answer: &mut [u64]| unsafe { version(given, out, answer) });
+    agree_written(name, &[given], [&calls[0], &calls[1]]);
+}
+
+type Writer<'a> = &'a dyn Fn(&mut [u8], &mut [u64]) -> u64;
 
 /// A call that writes: with enough room, exactly enough, and a byte too little.
-fn agree_written(name: &str, given: &[u8], versions: [Writer; 2]) {
+fn agree_written(name: &str, given: &[&[u8]], versions: [Writer; 2]) {
     let written = |version: Writer, room| {
         let mut out = vec![0xa5; room];
-        (valued(|answer| unsafe { version(given, &mut out, answer) }), out)
+        (valued(|answer| version(&mut out, answer)), out)
     };
     let needed = match written(versions[0], ROOM).0 {
         (0, answer) => answer[0] as usize,
@@ -139,7 +179,7 @@ fn agree_written(name: &str, given: &[u8], versions: [Writer; 2]) {
     };
     for room in [ROOM, needed, needed - 1] {
         let left = versions.map(|version| written(version, room));
-        agree(&format!("{name} into {room}"), &[given], left);
+        agree(&format!("{name} into {room}"), given, left);
     }
 }
 
@@ -164,7 +204,7 @@ fn agree_on_pair(name: &str, first: &[u8], second: &[u8]) {
     agree(&format!("{name}, leaner"), &[first, second], left);
 }
 
-/// How many random sheets there are, and as many pairs and products.
+/// How many random sheets there are, and as many pairs, products and columns.
 const RANDOM: usize = 6_000;
 
 fn agree_on_random() {
@@ -176,8 +216,16 @@ fn agree_on_random() {
         agree_on_pair("pair", &first, &second);
         let case = sheets::case_of(random_products::KINDS, &mut dice, number);
         agree_on_product(case.kind, &case.bytes);
+        let case = sheets::case_of(random_columns::KINDS, &mut dice, number);
+        if let Some(on_columns) = &VERSIONS.on_columns {
+            (on_columns.agree)(case.kind, &Input::from(case.bytes));
+        }
     }
-    println!("Every call of both answers and writes the same on {RANDOM} random sheets, pairs and products each.");
+    let columns = match VERSIONS.on_columns {
+        Some(_) => ", and on as many columns",
+        None => "; the older library has no columns",
+    };
+    println!("Every call of both answers and writes the same on {RANDOM} random sheets, pairs and products each{columns}.");
 }
 
 fn main() {

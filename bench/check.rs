@@ -1,21 +1,29 @@
-//! The plain fast version against the plain slow one of tests/second, on random sheets and products: the
+//! The plain fast version against the plain slow one of tests/second, on random sheets, products and columns: the
 //! verdict with number and index, the sizes, the bytes written and every byte that must stay as it came.
 //!
 //! Usage: check-fast [SHEETS] [SEED]
 
 #[path = "fast.rs"]
 mod fast;
+#[path = "fast_columns.rs"]
+mod fast_columns;
 #[path = "fast_rows.rs"]
 mod fast_rows;
 #[allow(dead_code)]
 #[path = "../tests/second/plain.rs"]
 mod plain;
 #[allow(dead_code)]
-#[path = "../tests/second/random_products.rs"]
-mod random_products;
+#[path = "../tests/second/plain_columns.rs"]
+mod plain_columns;
 #[allow(dead_code)]
 #[path = "../tests/second/plain_rows.rs"]
 mod plain_rows;
+#[allow(dead_code)]
+#[path = "../tests/second/random_columns.rs"]
+mod random_columns;
+#[allow(dead_code)]
+#[path = "../tests/second/random_products.rs"]
+mod random_products;
 #[allow(dead_code)]
 #[path = "../tests/second/sheets.rs"]
 mod sheets;
@@ -23,14 +31,14 @@ mod sheets;
 #[path = "../tests/second/tally.rs"]
 mod tally;
 
-use sheets::{Case, Dice};
+use sheets::Dice;
 use tally::{argument, hex, Tally};
 
 fn main() {
     let (count, seed) = (argument(1, 20_000), argument(2, 12));
     let mut dice = Dice::new(seed);
     let mut tally = Tally::new();
-    let (mut accepted, mut right) = (0, 0);
+    let (mut accepted, mut right, mut joined) = (0, 0, 0);
     for number in 0..count as usize {
         let case = sheets::case(&mut dice, number);
         let sheet = &case.bytes;
@@ -49,21 +57,36 @@ fn main() {
         });
 
         let restated = verdict.map(|v| v.restated());
-        written(&mut tally, &mut dice, &case, restated, fast::restate);
+        let restate = |out: &mut [u8], answer: &mut [u64]| fast::restate(sheet, out, answer);
+        written(&mut tally, &mut dice, case.kind, &[sheet], restated, restate);
         let case = sheets::case_of(random_products::KINDS, &mut dice, number);
-        let sheet = plain_rows::rows(&case.bytes);
+        let product = &case.bytes;
+        let sheet = plain_rows::rows(product);
         right += sheet.is_ok() as u64;
-        written(&mut tally, &mut dice, &case, sheet, fast_rows::rows);
+        let rows = |out: &mut [u8], answer: &mut [u64]| fast_rows::rows(product, out, answer);
+        written(&mut tally, &mut dice, case.kind, &[product], sheet, rows);
+        let case = sheets::case_of(random_columns::KINDS, &mut dice, number);
+        let (sheet, columns) = &case.bytes;
+        let made = plain_columns::columns(sheet, columns);
+        joined += made.is_ok() as u64;
+        let join = |out: &mut [u8], answer: &mut [u64]| fast_columns::columns(sheet, columns, out, answer);
+        written(&mut tally, &mut dice, case.kind, &[sheet, columns], made, join);
     }
-    println!("{count} sheets, {accepted} of them accepted; as many products, {right} of them accepted");
+    print!("{count} sheets, {accepted} of them accepted; as many products, {right} of them accepted; ");
+    println!("as many columns, {joined} of them accepted");
     tally.finish()
 }
 
-type Writer = fn(&[u8], &mut [u8], &mut [u64]) -> u64;
-
 /// A call that writes: with an output that is long enough, the shortest one, and one that is a byte too short.
-fn written(tally: &mut Tally, dice: &mut Dice, case: &Case, asked: Result<Vec<u8>, plain::Refusal>, call: Writer) {
-    let needed = asked.as_ref().map_or(case.bytes.len(), |bytes| bytes.len());
+fn written(
+    tally: &mut Tally,
+    dice: &mut Dice,
+    kind: &str,
+    given: &[&[u8]],
+    asked: Result<Vec<u8>, plain::Refusal>,
+    call: impl Fn(&mut [u8], &mut [u64]) -> u64,
+) {
+    let needed = asked.as_ref().map_or(given[0].len(), |bytes| bytes.len());
     for room in [needed + dice.below(64), needed, needed.saturating_sub(1)] {
         let before = dice.bytes(room);
         let mut expected = before.clone();
@@ -72,9 +95,10 @@ fn written(tally: &mut Tally, dice: &mut Dice, case: &Case, asked: Result<Vec<u8
             Ok(Err((number, index))) | Err(&(number, index)) => (number | (index as u64) << 16, [u64::MAX]),
         };
         let (mut out, mut answer) = (before, [u64::MAX]);
-        let told = call(&case.bytes, &mut out, &mut answer);
+        let told = call(&mut out, &mut answer);
         tally.check((told, answer) == meant && out == expected, || {
-            format!("{}: {told} {answer:?}, not {meant:?}: {}", case.kind, hex(&case.bytes))
+            let given: Vec<String> = given.iter().map(|bytes| hex(bytes)).collect();
+            format!("{kind}: {told} {answer:?}, not {meant:?}: {}", given.join(" "))
         });
     }
 }

@@ -1,18 +1,27 @@
-//! The proved library against plain Rust: the same sheets and products, one run (see tables.rs).
+//! The proved library against plain Rust: the same sheets, products and columns, one run (see tables.rs).
 //!
 //! Usage: bench [SWEEPS]
 
+mod column_lines;
 #[path = "fast.rs"]
 mod fast;
+#[path = "fast_columns.rs"]
+mod fast_columns;
 #[path = "fast_rows.rs"]
 mod fast_rows;
 #[allow(dead_code)]
 #[path = "../tests/second/plain.rs"]
 mod plain;
 #[allow(dead_code)]
+#[path = "../tests/second/plain_columns.rs"]
+mod plain_columns;
+#[allow(dead_code)]
 #[path = "../tests/second/plain_rows.rs"]
 mod plain_rows;
 mod product_lines;
+#[allow(dead_code)]
+#[path = "../tests/second/random_columns.rs"]
+mod random_columns;
 #[allow(dead_code)]
 #[path = "../tests/second/random_products.rs"]
 mod random_products;
@@ -22,12 +31,13 @@ mod sheet_lines;
 mod sheets;
 mod tables;
 
-use tables::{answered, Kind, Row, Versions, KEPT, ROOM};
+use tables::{answered, Input, Kind, Row, Versions, KEPT, ROOM};
 
 extern "C" {
     fn oatmist_check(sheet: &[u8], answer: &mut [u64]) -> u64;
     fn oatmist_restate(sheet: &[u8], out: &mut [u8], answer: &mut [u64]) -> u64;
     fn oatmist_rows(product: &[u8], out: &mut [u8], answer: &mut [u64]) -> u64;
+    fn oatmist_columns(sheet: &[u8], columns: &[u8], out: &mut [u8], answer: &mut [u64]) -> u64;
 }
 
 /// The calls that are timed.
@@ -36,20 +46,27 @@ const VERSIONS: Versions = Versions {
     ours: 0,
     on_sheets: Kind {
         calls: &[
-            |sheet, _| answered::<4>(|answer| unsafe { oatmist_check(sheet, answer) }),
-            |sheet, _| answered::<4>(|answer| fast::check(sheet, answer)),
-            |sheet, out| answered::<1>(|answer| unsafe { oatmist_restate(sheet, out, answer) }),
-            |sheet, out| answered::<1>(|answer| fast::restate(sheet, out, answer)),
+            |given, _| answered::<4>(|answer| unsafe { oatmist_check(&given.bytes, answer) }),
+            |given, _| answered::<4>(|answer| fast::check(&given.bytes, answer)),
+            |given, out| answered::<1>(|answer| unsafe { oatmist_restate(&given.bytes, out, answer) }),
+            |given, out| answered::<1>(|answer| fast::restate(&given.bytes, out, answer)),
         ],
         agree,
     },
     on_products: Kind {
         calls: &[
-            |product, out| answered::<1>(|answer| unsafe { oatmist_rows(product, out, answer) }),
-            |product, out| answered::<1>(|answer| fast_rows::rows(product, out, answer)),
+            |given, out| answered::<1>(|answer| unsafe { oatmist_rows(&given.bytes, out, answer) }),
+            |given, out| answered::<1>(|answer| fast_rows::rows(&given.bytes, out, answer)),
         ],
         agree: agree_on_product,
     },
+    on_columns: Some(Kind {
+        calls: &[
+            |given, out| answered::<1>(|answer| unsafe { oatmist_columns(&given.bytes, &given.columns, out, answer) }),
+            |given, out| answered::<1>(|answer| fast_columns::columns(&given.bytes, &given.columns, out, answer)),
+        ],
+        agree: agree_on_columns,
+    }),
     agree_beyond: || (),
 };
 
@@ -57,7 +74,8 @@ const VERSIONS: Versions = Versions {
 // The same answers
 
 /// Both versions on one sheet, the verdict by the slow one too; stops the run where they differ.
-fn agree(name: &str, sheet: &[u8]) {
+fn agree(name: &str, given: &Input) {
+    let sheet = &given.bytes[..];
     let verdict = plain::verdict(sheet);
     let meant = match &verdict {
         Ok(v) => (0, [v.n as u64, v.m as u64, v.t as u64, v.s as u64]),
@@ -70,17 +88,17 @@ fn agree(name: &str, sheet: &[u8]) {
     assert_eq!(by_hand, meant, "{name}: the plain check");
 
     let meant = verdict.map(|sheet| sheet.restated()).map_err(fast::told);
-    let calls = [
-        |sheet: &[u8], out: &mut [u8], answer: &mut [u64]| unsafe { oatmist_restate(sheet, out, answer) },
-        fast::restate,
+    let calls: [Writer; 2] = [
+        |given, out, answer| unsafe { oatmist_restate(&given.bytes, out, answer) },
+        |given, out, answer| fast::restate(&given.bytes, out, answer),
     ];
-    agree_written(name, sheet, &meant, calls);
+    agree_written(name, given, &meant, calls);
 }
 
-type Writer = fn(&[u8], &mut [u8], &mut [u64]) -> u64;
+type Writer = fn(&Input, &mut [u8], &mut [u64]) -> u64;
 
 /// Both versions of a call that writes, the proved one first: with enough room, exactly enough, and a byte too little.
-fn agree_written(name: &str, given: &[u8], meant: &Result<Vec<u8>, u64>, calls: [Writer; 2]) {
+fn agree_written(name: &str, given: &Input, meant: &Result<Vec<u8>, u64>, calls: [Writer; 2]) {
     let needed = meant.as_ref().map_or(ROOM, |bytes| bytes.len());
     for room in [ROOM, needed, needed - 1] {
         let mut expected = vec![0xa5; room];
@@ -102,13 +120,23 @@ fn agree_written(name: &str, given: &[u8], meant: &Result<Vec<u8>, u64>, calls: 
 }
 
 /// Both versions on one product; stops the run where they differ from each other or from the slow one.
-fn agree_on_product(name: &str, product: &[u8]) {
-    let meant = plain_rows::rows(product).map_err(|(number, _)| number);
-    let calls = [
-        |product: &[u8], out: &mut [u8], answer: &mut [u64]| unsafe { oatmist_rows(product, out, answer) },
-        fast_rows::rows,
+fn agree_on_product(name: &str, given: &Input) {
+    let meant = plain_rows::rows(&given.bytes).map_err(fast::told);
+    let calls: [Writer; 2] = [
+        |given, out, answer| unsafe { oatmist_rows(&given.bytes, out, answer) },
+        |given, out, answer| fast_rows::rows(&given.bytes, out, answer),
     ];
-    agree_written(name, product, &meant, calls);
+    agree_written(name, given, &meant, calls);
+}
+
+/// The same on a sheet with columns.
+fn agree_on_columns(name: &str, given: &Input) {
+    let meant = plain_columns::columns(&given.bytes, &given.columns).map_err(fast::told);
+    let calls: [Writer; 2] = [
+        |given, out, answer| unsafe { oatmist_columns(&given.bytes, &given.columns, out, answer) },
+        |given, out, answer| fast_columns::columns(&given.bytes, &given.columns, out, answer),
+    ];
+    agree_written(name, given, &meant, calls);
 }
 
 // ---------------------------------------------------------------------------------------------

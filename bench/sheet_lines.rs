@@ -31,7 +31,7 @@ fn permuted(draft: &mut Draft) {
 
 /// 16 components with 4 actions each, all of 32 states held, 2,048 transitions, 1,024 actions. An
 /// action has 1 component, 2 neighbours, or all 16.
-fn largest(participants: usize, cut: Cut) -> Draft {
+pub fn largest(participants: usize, cut: Cut) -> Draft {
     let m = 64 / participants;
     let mut draft = Draft::empty(m);
     for j in 0..16 {
@@ -118,7 +118,7 @@ fn random(seed: u64, size: Size, actions: (usize, usize), count: usize) -> Vec<V
     made
 }
 
-const SMALL: Size = Size {
+pub const SMALL: Size = Size {
     n: (2, 4),
     m: (3, 8),
     states: (2, 6),
@@ -128,7 +128,7 @@ const SMALL: Size = Size {
     internal: 10,
 };
 
-const MIDDLE: Size = Size {
+pub const MIDDLE: Size = Size {
     n: (5, 9),
     m: (10, 24),
     states: (4, 12),

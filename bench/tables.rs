@@ -1,9 +1,9 @@
-//! Tables of times: two versions of the calls on the same sheets and products, one run, rounds in turn. Before anything is
+//! Tables of times: two versions of the calls on the same sheets, products and columns, one run, rounds in turn. Before anything is
 //! timed both must give the same answers, byte for byte. Each sweep has a process of its own, since some lines have two
 //! speeds, and a process keeps to one of them. A time is the best round of all; a ratio is the middle one of the
 //! sweeps', each by its own best rounds.
 
-use crate::{product_lines, sheet_lines};
+use crate::{column_lines, product_lines, sheet_lines};
 use std::hint::black_box;
 use std::process::{exit, Command};
 use std::time::Instant;
@@ -34,14 +34,26 @@ pub fn answered<const N: usize>(call: impl FnOnce(&mut [u64]) -> u64) -> u64 {
     told ^ black_box(&answer)[0]
 }
 
-pub type Call = fn(&[u8], &mut [u8]) -> u64;
+/// What a call is given: a sheet or a product, and columns where it takes them.
+pub struct Input {
+    pub bytes: Vec<u8>,
+    pub columns: Vec<u8>,
+}
 
-/// What is done with one kind of input, sheets or products.
+impl From<(Vec<u8>, Vec<u8>)> for Input {
+    fn from((bytes, columns): (Vec<u8>, Vec<u8>)) -> Input {
+        Input { bytes, columns }
+    }
+}
+
+pub type Call = fn(&Input, &mut [u8]) -> u64;
+
+/// What is done with one kind of input: sheets, products, or sheets with columns.
 pub struct Kind {
-    /// What is timed of both versions, in twos: the check and restating of a sheet, or the rows of a product.
+    /// What is timed of both versions, in twos: the check and restating of a sheet, the rows of a product, or columns.
     pub calls: &'static [Call],
     /// Both versions on one input, named by its line; stops the run where they differ.
-    pub agree: fn(&str, &[u8]),
+    pub agree: fn(&str, &Input),
 }
 
 /// Two versions of the calls.
@@ -52,6 +64,8 @@ pub struct Versions {
     pub ours: usize,
     pub on_sheets: Kind,
     pub on_products: Kind,
+    /// Nothing where one of the versions has no such call.
+    pub on_columns: Option<Kind>,
     /// Both versions on what stands in no table; stops the run where they differ.
     pub agree_beyond: fn(),
 }
@@ -76,9 +90,12 @@ impl Versions {
     fn tables(&self) -> Vec<Table> {
         let sheets = sheet_lines::tables().into_iter();
         let mut made: Vec<Table> = sheets
-            .map(|(name, lines)| Table::new(name, &["check", "restate"], &self.on_sheets, lines))
+            .map(|(name, lines)| Table::new(name, &["check", "restate"], &self.on_sheets, alone(lines)))
             .collect();
-        made.push(Table::new("Products", &["rows"], &self.on_products, product_lines::lines()));
+        made.push(Table::new("Products", &["rows"], &self.on_products, alone(product_lines::lines())));
+        if let Some(kind) = &self.on_columns {
+            made.push(Table::new("Columns", &["columns"], kind, column_lines::lines()));
+        }
         made
     }
 
@@ -93,7 +110,7 @@ impl Versions {
         (self.agree_beyond)();
         let compared: usize = rows(&mut tables).map(|row| row.agree()).sum();
         let (ours, other) = self.ours_and_other(&self.names);
-        print!("Both give the same answers on the {compared} sheets and products. Nanoseconds a call, ");
+        print!("Both give the same answers on the {compared} sheets, products and columns. Nanoseconds a call, ");
         print!("best of {} rounds; ratio: {other} / {ours}, the middle one of {sweeps} sweeps, ", sweeps * AT_ONCE);
         println!("above 1 the {ours} one is faster.");
         for _ in 0..sweeps {
@@ -124,8 +141,14 @@ impl Versions {
 // ---------------------------------------------------------------------------------------------
 // Tables and their rows
 
-/// The name of a line, and its sheets or products.
-pub type Line = (String, Vec<Vec<u8>>);
+/// The name of a line, and what is given: sheets or products, or sheets with columns.
+pub type Line<T = Vec<u8>> = (String, Vec<T>);
+
+/// Lines of sheets or of products, without columns.
+fn alone(lines: Vec<Line>) -> Vec<Line<Input>> {
+    let line = |(name, given): Line| (name, given.into_iter().map(|bytes| Input::from((bytes, vec![]))).collect());
+    lines.into_iter().map(line).collect()
+}
 
 /// A table: what its first column has, the calls that it is about, and its lines.
 pub struct Table {
@@ -135,8 +158,8 @@ pub struct Table {
 }
 
 impl Table {
-    fn new(name: &'static str, calls: &'static [&'static str], kind: &Kind, lines: Vec<Line>) -> Table {
-        let row = |(name, given): Line| Row {
+    fn new(name: &'static str, calls: &'static [&'static str], kind: &Kind, lines: Vec<Line<Input>>) -> Table {
+        let row = |(name, given): Line<Input>| Row {
             name,
             given,
             calls: kind.calls,
@@ -173,18 +196,18 @@ fn swept() -> Vec<f64> {
     said.lines().map(|line| line.parse().expect("a time")).collect()
 }
 
-/// The sheets or products of one line of a table, and for each sweep the best time of each call for one of them. The calls
+/// The sheets, products or columns of one line of a table, and for each sweep the best time of each call for one of them. The calls
 /// come in twos.
 pub struct Row {
     pub name: String,
-    given: Vec<Vec<u8>>,
+    given: Vec<Input>,
     calls: &'static [Call],
-    agree: fn(&str, &[u8]),
+    agree: fn(&str, &Input),
     sweeps: Vec<Vec<f64>>,
 }
 
 impl Row {
-    /// How many sheets or products there are, on all of which both versions must agree.
+    /// How many sheets, products or columns there are, on all of which both versions must agree.
     fn agree(&self) -> usize {
         self.given.iter().for_each(|input| (self.agree)(&self.name, input));
         self.given.len()
@@ -217,8 +240,8 @@ impl Row {
     }
 }
 
-/// Nanoseconds of a number of passes over the sheets or products.
-fn passes(call: Call, given: &[Vec<u8>], out: &mut [u8], count: usize) -> u128 {
+/// Nanoseconds of a number of passes over the sheets, products or columns.
+fn passes(call: Call, given: &[Input], out: &mut [u8], count: usize) -> u128 {
     let began = Instant::now();
     for _ in 0..count {
         for input in given {

@@ -1,8 +1,8 @@
 /* Oatmist for C and C++: the calls of the static library that `tools/build` makes.
 
-   What a call is given. A sheet is any bytes, and so is a product: every call takes all of them, and always answers. Each array is
-   passed as a pointer and a length in entries, in this order. A pointer may be null where its length is 0, is aligned for its type, and
-   an array that is lent to be written overlaps no other argument.
+   What a call is given. A sheet is any bytes, and so are a product and columns: every call takes all of them, and always answers. Each
+   array is passed as a pointer and a length in entries, in this order. A pointer may be null where its length is 0, is aligned for its
+   type, and an array that is lent to be written overlaps no other argument.
 
    What a call returns. 0: the call answered. Its values stand at the front of the array `answer` (or `ends`), as many as there is room
    for; the other entries keep their values. Not 0: the call refused, and every lent array is as it came. OATMIST_REFUSAL then has the
@@ -18,8 +18,8 @@
    Threads. The library keeps nothing between calls and takes no memory but the caller's stack: calls may run side by side, on the same
    sheets too, as long as each has outputs of its own.
 
-   Stack. OATMIST_STACK bytes serve every call. Measured on x86-64, for the smallest and the largest sheets and products alike: rows 3 KiB,
-   check and process 8, end_sets and stuck 9, figure, restate, winner and leaner 16, same_work 24, report 33. */
+   Stack. OATMIST_STACK bytes serve every call. Measured on x86-64, for the smallest and the largest sheets, products and columns alike:
+   rows 3 KiB, check and process 8, end_sets and stuck 9, restate 10, figure, winner and leaner 16, columns 19, same_work 24, report 33. */
 #ifndef OATMIST_H
 #define OATMIST_H
 
@@ -31,10 +31,11 @@ extern "C" {
 #endif
 
 /* The version, as in the file VERSION: as a text, and as a number that grows, 10000 times the first part, 100 times the second, the third. */
-#define OATMIST_VERSION "1.1.0"
-#define OATMIST_VERSION_NUMBER 10100
+#define OATMIST_VERSION "1.2.0"
+#define OATMIST_VERSION_NUMBER 10200
 
-/* Limits of a sheet, in bytes; other lengths are refused. A restated sheet is never longer than its sheet. */
+/* Limits of a sheet, in bytes; other lengths are refused. A restated sheet is never longer than its sheet. One from columns may be, and
+   an output of OATMIST_LONGEST_SHEET bytes always serves for it. */
 #define OATMIST_SHORTEST_SHEET 26
 #define OATMIST_LONGEST_SHEET 16650
 
@@ -55,27 +56,29 @@ extern "C" {
 #define OATMIST_SHEET(told) ((int)(((told) >> 8) & 255))
 #define OATMIST_STEP(told) ((int)((told) >> 16))
 
-/* The refusals; docs/RULES.md has each as R1 to R17. Of a sheet a call gives the lowest number that applies; among 10 to 12 the earliest
+/* The refusals; docs/RULES.md has each as R1 to R19. Of a sheet a call gives the lowest number that applies; among 10 to 12 the earliest
    faulty step comes first. Only 10 to 12 have a step index other than 0. Of two sheets the first is judged first, then the second, then
-   14. Of a product 15, 16 and 17 come in this order, then 13. */
+   14. Of a product 15, 16 and 17 come in this order, then 13. Of columns those of their sheet come first, then 18, 19, and last 13. */
 enum oatmist_refusal {
-    OATMIST_REFUSAL_LENGTH = 1,         /* the sheet is too short or too long */
-    OATMIST_REFUSAL_MARK = 2,           /* it does not end in hexadecimal 46 53 */
-    OATMIST_REFUSAL_COUNTS = 3,         /* not 1 to 16 components, or not 1 to 64 actions */
-    OATMIST_REFUSAL_OFFSETS = 4,        /* the offsets do not fit, or too many transitions or steps */
-    OATMIST_REFUSAL_RECORD = 5,         /* a component's record is wrong */
-    OATMIST_REFUSAL_UNUSED_ACTION = 6,  /* an action is in no alphabet */
-    OATMIST_REFUSAL_TRANSITION = 7,     /* a transition names something that is not there */
-    OATMIST_REFUSAL_ORDER = 8,          /* the transitions are not sorted, or one stands twice */
-    OATMIST_REFUSAL_ACTIONS = 9,        /* more than 1,024 actions over all steps */
-    OATMIST_REFUSAL_STEP = 10,          /* the step is empty, or has an unknown action */
-    OATMIST_REFUSAL_CLASH = 11,         /* two actions of the step share a component */
-    OATMIST_REFUSAL_NOT_ENABLED = 12,   /* an action of the step is not enabled before it */
-    OATMIST_REFUSAL_OUTPUT = 13,        /* the lent output is too short */
-    OATMIST_REFUSAL_TABLES = 14,        /* two sheets over different components or transitions */
-    OATMIST_REFUSAL_PRODUCT = 15,       /* a product's length does not fit, or a count, state or number is out of range */
-    OATMIST_REFUSAL_ROW = 16,           /* a row is idle throughout, or repeats an earlier row */
-    OATMIST_REFUSAL_IDLE_COMPONENT = 17 /* a component is idle in every row */
+    OATMIST_REFUSAL_LENGTH = 1,          /* the sheet is too short or too long */
+    OATMIST_REFUSAL_MARK = 2,            /* it does not end in hexadecimal 46 53 */
+    OATMIST_REFUSAL_COUNTS = 3,          /* not 1 to 16 components, or not 1 to 64 actions */
+    OATMIST_REFUSAL_OFFSETS = 4,         /* the offsets do not fit, or too many transitions or steps */
+    OATMIST_REFUSAL_RECORD = 5,          /* a component's record is wrong */
+    OATMIST_REFUSAL_UNUSED_ACTION = 6,   /* an action is in no alphabet */
+    OATMIST_REFUSAL_TRANSITION = 7,      /* a transition names something that is not there */
+    OATMIST_REFUSAL_ORDER = 8,           /* the transitions are not sorted, or one stands twice */
+    OATMIST_REFUSAL_ACTIONS = 9,         /* more than 1,024 actions over all steps */
+    OATMIST_REFUSAL_STEP = 10,           /* the step is empty, or has an unknown action */
+    OATMIST_REFUSAL_CLASH = 11,          /* two actions of the step share a component */
+    OATMIST_REFUSAL_NOT_ENABLED = 12,    /* an action of the step is not enabled before it */
+    OATMIST_REFUSAL_OUTPUT = 13,         /* the lent output is too short */
+    OATMIST_REFUSAL_TABLES = 14,         /* two sheets over different components or transitions */
+    OATMIST_REFUSAL_PRODUCT = 15,        /* a product's length does not fit, or a count, state or number is out of range */
+    OATMIST_REFUSAL_ROW = 16,            /* a row is idle throughout, or repeats an earlier row */
+    OATMIST_REFUSAL_IDLE_COMPONENT = 17, /* a component is idle in every row */
+    OATMIST_REFUSAL_COLUMNS = 18,        /* the columns do not fill their bytes, have too many labels, or one outside its alphabet */
+    OATMIST_REFUSAL_NO_EXECUTION = 19    /* no accepted sheet over these tables has these columns */
 };
 
 /* The check. Four values: the number of components, the number of actions, where the transitions begin and where the steps begin. */
@@ -117,6 +120,14 @@ uint64_t oatmist_winner(const uint8_t *first, size_t first_length, const uint8_t
    action g. Refused are 15, 16 and 17, and last 13, for an output that is too short. */
 uint64_t oatmist_rows(const uint8_t *product, size_t product_length, uint8_t *out, size_t out_length, uint64_t *answer,
                       size_t answer_length);
+
+/* An execution from columns: the sheet in normal form over the components and transitions of the given one whose columns are these. It is
+   written to the front of `out`; the bytes behind it keep their values. One value: how many bytes were written. The columns are, for each
+   component in turn, the number of its labels in two bytes, the low one first, and then the labels, a byte each: its own actions in their
+   order. They have at most 1,024 labels together. The steps of the given sheet play no part, but it must be accepted. Refused are 1 to 12,
+   of the sheet, then 18 and 19, and last 13, for an output that is too short. */
+uint64_t oatmist_columns(const uint8_t *sheet, size_t sheet_length, const uint8_t *columns, size_t columns_length, uint8_t *out,
+                         size_t out_length, uint64_t *answer, size_t answer_length);
 
 /* Some bytes of the caller, which stay where they are. */
 struct oatmist_part {

@@ -57,7 +57,7 @@ class Desk:
         if told:
             number, sheet, step = told & 255, told >> 8 & 255, told >> 16
             return f"refused {number} {step}" + (f" of sheet {sheet}" if call in ("same_work", "winner") or sheet else "")
-        if call in ("restate", "rows"):
+        if call in ("restate", "rows", "columns"):
             return f"{value} bytes"
         if call == "process":
             return f"offends at {value - 1}" if value else "yes"
@@ -69,18 +69,22 @@ class Desk:
         return self.ask("process", (lent(sheet), len(sheet)))
 
     def written(self, call, given, output, room):
-        """'N bytes' or 'refused R P', and the output, of which the first `room` bytes are lent, as it is then."""
+        """'N bytes' or 'refused R P' for what is given, and the output, of which the first `room` bytes are lent, as it is then."""
         out = lent(output)
-        answer = self.ask(call, (lent(given), len(given)), (out, room))
+        answer = self.ask(call, *((lent(data), len(data)) for data in given), (out, room))
         return answer, bytes(out)
 
     def restate(self, sheet, output, room):
         """What `written` says, of a sheet restated."""
-        return self.written("restate", sheet, output, room)
+        return self.written("restate", [sheet], output, room)
 
     def rows(self, product, output, room):
         """What `written` says, of the sheet that a product becomes (B6)."""
-        return self.written("rows", product, output, room)
+        return self.written("rows", [product], output, room)
+
+    def columns(self, sheet, columns, output, room):
+        """What `written` says, of the restated sheet over the tables of this one that has the columns (V3)."""
+        return self.written("columns", [sheet, columns], output, room)
 
     def same_work(self, first, second):
         """'yes', 'no' or 'refused R P of sheet Q'."""

@@ -1,7 +1,7 @@
 """The proved calls: every call of include/oatmist.h as a function that gives its value, or raises `Refusal`.
 
-A sheet or a product is any bytes: a bytes, a bytearray or a memoryview. The functions keep nothing between calls and may be called from
-several threads; ctypes lets other threads run meanwhile. The library is looked for at the first call (`library.find`).
+A sheet, a product or columns are any bytes: a bytes, a bytearray or a memoryview. The functions keep nothing between calls and may be
+called from several threads; ctypes lets other threads run meanwhile. The library is looked for at the first call (`library.find`).
 
     sizes = check(sheet)                 # Sizes(components=2, actions=3, transitions_at=32, steps_at=52)
     sets = end_sets(sheet)               # [[1], [0]]: the states of each component
@@ -22,7 +22,9 @@ STACK = 65536
 
 LENGTH, MARK, COUNTS, OFFSETS, RECORD, UNUSED_ACTION, TRANSITION, ORDER = range(1, 9)
 ACTIONS, STEP, CLASH, NOT_ENABLED, OUTPUT, TABLES = range(9, 15)
+OF_STEPS = range(STEP, OUTPUT)  # these alone are about a step
 PRODUCT, ROW, IDLE_COMPONENT = range(15, 18)
+COLUMNS, NO_EXECUTION = range(18, 20)
 
 
 class Refusal(Exception):
@@ -55,7 +57,7 @@ TWO_SHEETS = [IN, SIZE, IN, SIZE, OUT, SIZE]
 ARGUMENTS = {
     "check": ONE_SHEET, "end_sets": ONE_SHEET, "process": ONE_SHEET, "figure": ONE_SHEET, "stuck": ONE_SHEET,
     "restate": WITH_OUTPUT, "report": WITH_OUTPUT, "rows": WITH_OUTPUT, "same_work": TWO_SHEETS, "winner": TWO_SHEETS,
-    "leaner": [IN, SIZE, IN, SIZE, ctypes.POINTER(Part)],
+    "columns": [IN, SIZE, *WITH_OUTPUT], "leaner": [IN, SIZE, IN, SIZE, ctypes.POINTER(Part)],
 }
 
 
@@ -92,10 +94,10 @@ def ask(name, count, *sheets, lent=()):
     return list(values)
 
 
-def written(name, given, room):
+def written(name, room, *given):
     """What a call writes into lent bytes."""
     out = ctypes.create_string_buffer(max(room, 1))
-    length, = ask(name, 1, given, lent=[out])
+    length, = ask(name, 1, *given, lent=[out])
     return out.raw[:length]
 
 
@@ -117,7 +119,7 @@ def process(sheet):
 
 def restate(sheet):
     """The restated sheet. It is never longer than the sheet."""
-    return written("restate", sheet, memoryview(sheet).nbytes)
+    return written("restate", memoryview(sheet).nbytes, sheet)
 
 
 def figure(sheet):
@@ -132,12 +134,17 @@ def stuck(sheet):
 
 def report(sheet):
     """The text that the program `mark` prints; a refused sheet has one, too."""
-    return written("report", sheet, REPORT_ROOM).decode("ascii")
+    return written("report", REPORT_ROOM, sheet).decode("ascii")
 
 
 def rows(product):
     """The sheet without steps that a product given by rows becomes; the product is any bytes."""
-    return written("rows", product, ROWS_ROOM)
+    return written("rows", ROWS_ROOM, product)
+
+
+def columns(sheet, given):
+    """The restated sheet over the tables of this one that has these columns, which are any bytes; the steps of this one play no part."""
+    return written("columns", LONGEST_SHEET, sheet, given)
 
 
 def same_work(first, second):

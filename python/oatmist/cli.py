@@ -3,8 +3,9 @@ proved calls.
 
 A system is a text of components, or of a product that is given by its rows;
 docs/TEXT.md explains both. An execution is a text of steps, {produce} {start},
-in a file of its own or behind the system. Both may also be a sheet, the file
-that the desk marks. '-' is standard input, and '-o -' standard output.
+or of columns, a line for each component with its own actions in order. It
+stands in a file of its own or behind the system. Both may also be a sheet, the
+file that the desk marks. '-' is standard input, and '-o -' standard output.
 """
 import argparse
 import importlib

@@ -27,11 +27,12 @@ class Fault(Exception):
 
 
 class Unfit(Fault):
-    """A sheet or a product that the desk refuses whatever its steps are: which of the two, the number, and what to mend."""
+    """A sheet or a product that the desk refuses whatever its steps are, or columns that no execution has: what it is not, the number, what
+    to mend, and lines that tell more where there is room for them."""
 
-    def __init__(self, what, number, sentence, line=0):
+    def __init__(self, what, number, sentence, line=0, more=()):
         super().__init__(f"no {what}, refused by {number}: {sentence}", line, status=1)
-        self.number, self.sentence = number, sentence
+        self.number, self.sentence, self.more = number, sentence, "".join(more)
 
 
 def cut(text, most=SHOWN):
@@ -60,3 +61,10 @@ def listed(names, last="and"):
     """Names for a sentence: a, b and c."""
     names = list(names)
     return f" {last} ".join(filter(None, [", ".join(names[:-1]), *names[-1:]]))
+
+
+def fitting(parts, most):
+    """As many of these parts as fit into so many characters, for a sentence, and how many more there are; one at least."""
+    parts = list(parts)
+    kept = max((count for count in range(1, len(parts) + 1) if len(listed(parts[:count])) <= most), default=1)
+    return listed(parts[:kept] + [f"{len(parts) - kept} more"] * (kept < len(parts)))

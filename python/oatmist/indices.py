@@ -15,8 +15,10 @@ from .faults import Fault, quoted
 TOKEN = re.compile(r"\s*(?:([0-9]+)|([^\W\d]\w*)|([-+*%()]))")
 FOR = re.compile(r"\sfor\s+(.*)$")
 RANGE = re.compile(r"\s*([^\W\d]\w*)\s+in\s+(.+)\.\.(.+)")
-INDEXED = re.compile(r"(?<![^\s{},<>\-])(?:[^\s{},<>\-\[\]]|\[[^\[\]]*\])*\[[^\[\]]*\](?:[^\s{},<>\-\[\]]|\[[^\[\]]*\])*")
+INDEXED = re.compile(r"(?<![^\s{},:<>\-])(?:[^\s{},:<>\-\[\]]|\[[^\[\]]*\])*\[[^\[\]]*\](?:[^\s{},:<>\-\[\]]|\[[^\[\]]*\])*")
 BRACKET = re.compile(r"\[([^\[\]]*)\]")
+AROUND = re.compile(r"[\s:]\[")  # brackets around actions
+NO_BRACKETS = "a column has no brackets around its actions: write them one after another, with spaces between them"
 LONGEST = 100  # characters of one piece of arithmetic, or of one range
 DIGITS = 6  # of a number
 MOST = 1024  # values that the indices of one line have together
@@ -173,11 +175,16 @@ def begins_rows(text):
     return text.split(None, 1)[0] == "rows" and "->" not in text
 
 
+def begins_columns(text):
+    """Whether a line begins an execution as columns. A transition, a row and a column are longer, whatever they name."""
+    return text == "columns"
+
+
 def blocks(lines):
     """The lines of each component, and those before and after all components."""
     block = []
     for line in lines:
-        if (line.text.split(None, 1)[0] in ("component", "steps") or begins_rows(line.text)) and block:
+        if (line.text.split(None, 1)[0] in ("component", "steps") or begins_rows(line.text) or begins_columns(line.text)) and block:
             yield block
             block = []
         block.append(line)
@@ -201,7 +208,8 @@ def expanded_block(block, indices):
                 for chosen in many:
                     yield line._replace(text=indices.worked_out(text, chosen), note=note(chosen))
     except Fault as fault:
-        raise Fault(fault.message, fault.line or line.number, fault.path or line.path)
+        around = begins_columns(block[0].text) and AROUND.search(line.text)
+        raise Fault(NO_BRACKETS if around else fault.message, fault.line or line.number, fault.path or line.path)
 
 
 def expanded(lines):

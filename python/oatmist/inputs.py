@@ -1,7 +1,7 @@
-"""Systems and executions from the files that a person names: texts of systems and of products, sheets and .aut files."""
+"""Systems and executions from the files that a person names: texts of systems, of products and of executions, sheets and .aut files."""
 import os
 
-from . import aldebaran, calls, files, rows, text
+from . import aldebaran, calls, columns, files, rows, text
 from .faults import Fault, Unfit, quoted
 from .indices import Line
 from .letters import decoded
@@ -15,8 +15,8 @@ OTHER_SYSTEM = "this is over another system: its components or transitions diffe
 
 def add_both(parser):
     """The arguments of a verb about one execution."""
-    parser.add_argument("system", metavar="SYSTEM", help="a text of a system or a product, with or without steps behind it; or a sheet")
-    parser.add_argument("execution", metavar="EXECUTION", nargs="?", help="a text of steps, or a sheet over the same system")
+    parser.add_argument("system", metavar="SYSTEM", help="a text of a system or a product, with or without an execution behind it; or a sheet")
+    parser.add_argument("execution", metavar="EXECUTION", nargs="?", help="a text of steps or of columns, or a sheet over the same system")
 
 
 def is_sheet(path, data):
@@ -35,8 +35,8 @@ def open_sheet(data):
 
 
 def read_text(written, folder=""):
-    """The system and the execution of a text; a product becomes a system. Files that the text names are looked for in the folder; where
-    that is None it may name none."""
+    """The system and the execution of a text; a product becomes a system, and columns stay columns. Files that the text names are looked
+    for in the folder; where that is None it may name none."""
     if not text.has_rows(written):
         return text.read(written, folder)
     product, execution = text.read_product(written, folder)
@@ -44,7 +44,7 @@ def read_text(written, folder=""):
 
 
 def parse(path, data):
-    """The system and the execution of a file with these bytes; the execution is None where it has no steps."""
+    """The system and the execution of a file with these bytes; the execution is None where it has none."""
     if is_sheet(path, data):
         return open_sheet(data)
     folder, name = os.path.split("" if path == "-" else path)
@@ -54,7 +54,7 @@ def parse(path, data):
 
 
 def read_system(path):
-    """The system of a file, and its execution: None where it has no steps."""
+    """The system of a file, and its execution: None where it has none, and columns where it is written so."""
     data = files.load(path)
     with files.naming(path):
         return parse(path, data)
@@ -73,7 +73,8 @@ def check_names(system, other):
     """The actions of a text must be called as in the system, unless that is a sheet, which has no names."""
     for number, (due, name) in enumerate(zip(system.actions, other.actions)):
         if name != due and system.actions != number_names(len(system.actions)):
-            raise Fault(f"action {number} is called {quoted(name)} here and {quoted(due)} in the system: hand in the steps alone, in its names")
+            raise Fault(f"action {number} is called {quoted(name)} here and {quoted(due)} in the system: "
+                        "hand in the execution alone, in its names")
 
 
 def need_steps(execution):
@@ -83,8 +84,20 @@ def need_steps(execution):
     return execution
 
 
+def as_steps(path, system, execution):
+    """The execution of a file as steps: columns become those that the desk makes of them."""
+    with files.naming(path):
+        return columns.execution_of(system, execution)
+
+
 def read_execution(path, system):
-    """The execution of a file that is a text of steps, a text with its system and steps, or a sheet; the system must be this one."""
+    """The execution of a file, as steps: a text of steps or of columns, a text with its system and one of them, or a sheet; the system must
+    be this one."""
+    return as_steps(path, system, read_over(path, system))
+
+
+def read_over(path, system):
+    """The same, as it is written."""
     data = files.load(path)
     with files.naming(path):
         if not is_sheet(path, data) and not text.has_system(decoded(data)):
@@ -103,5 +116,5 @@ def read_both(system_path, execution_path=None):
         raise Fault("standard input has one file: name the other")
     system, execution = read_system(system_path)
     if execution_path is not None:
-        execution = read_execution(execution_path, system)
-    return system, execution or Execution()
+        return system, read_execution(execution_path, system)
+    return system, as_steps(system_path, system, execution or Execution())

@@ -7,6 +7,7 @@ import io
 import json
 from unicodedata import category
 
+from . import calls
 from .faults import printable, shown
 from .model import bits
 from .sittings import ACCEPTED, REFUSED, UNREADABLE
@@ -75,7 +76,7 @@ def padded(text, width):
 def verdict(line):
     """The verdict in words."""
     if line.verdict == REFUSED:
-        return f"refused {line.number}" + (f" at step {line.step + 1}" if line.number >= 10 else "")
+        return f"refused {line.number}" + (f" at step {line.step + 1}" if line.number in calls.OF_STEPS else "")
     return {ACCEPTED: "accepted"}.get(line.verdict, "other system (14)")
 
 

@@ -55,6 +55,11 @@ class System:
     components: list = field(default_factory=list)
     dropped: list = field(default=None, compare=False)  # of a product: its components with transitions that no row names; else None
 
+    @property
+    def alphabets(self):
+        """Of each component its alphabet."""
+        return [component.alphabet for component in self.components]
+
     def takers(self, action):
         """The components that have the action in their alphabet."""
         return [component for component in self.components if action in component.alphabet]
@@ -73,10 +78,19 @@ class Execution:
     """Steps, each the numbers of its actions in the order of the text. One that the desk refuses may be empty, or have numbers up to 63."""
 
     steps: list = field(default_factory=list)
+    of_columns: bool = field(default=False, compare=False)  # whether the desk made them of columns
 
     def front(self, count):
         """The execution of the first steps."""
         return Execution(self.steps[:count])
+
+
+@dataclass
+class Columns:
+    """An execution as columns: of each component the numbers of its own actions in order. `lines` is where they stand in their text."""
+
+    lists: list = field(default_factory=list)
+    lines: list = field(default_factory=list, compare=False)
 
 
 def bits(number):

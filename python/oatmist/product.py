@@ -61,6 +61,11 @@ class Product:
         """The names of the rows, which are the actions of the system that the product becomes."""
         return [row.name for row in self.rows]
 
+    @property
+    def alphabets(self):
+        """Of each component the rows in which it takes part."""
+        return [{number for number, row in enumerate(self.rows) if row.takes[index] is not None} for index in range(len(self.components))]
+
 
 def encode(product):
     """The bytes of a product: the two counts, each component with its transitions, then the rows."""

@@ -3,13 +3,13 @@
 Numbers that are out of range are read as far as a byte can count them: to refuse them is for the desk.
 """
 from .faults import cut, quoted
-from .indices import begins_rows
+from .indices import begins_columns, begins_rows
 from .letters import name_fault, odd_letter
 from .product import MOST, Machine, Product, Row, Transition
 from .reader import NO_INITIAL, NO_STATE, TABLES, WORDS, Reader
 
 EXAMPLE = "a transition of a product has a name: write 's1 -t1-> s2'"
-LINES = "a line begins with component, states, initial, rows or steps, or is a transition such as 's1 -t1-> s2'"
+LINES = "a line begins with component, states, initial, rows, steps or columns, or is a transition such as 's1 -t1-> s2'"
 INTERNAL = ("a product has no internal transition, and the labels i and tau are internal: "
             "give each transition of the file a name of its own")
 ROW = "a row is a name and one word for each component, without brackets and commas: write 'a t1 -'"
@@ -29,7 +29,7 @@ class ProductReader(Reader):
 
     def take(self, text):
         word, *entries = text.split()
-        if self.steps is not None or word == "steps" and not self.fits(entries):
+        if self.steps is not None or begins_columns(text) or word == "steps" and not self.fits(entries):
             super().take(text)
         elif self.tables.line:
             self.take_row(text)
@@ -103,7 +103,7 @@ class ProductReader(Reader):
         if any(sign in text.replace("->", "") for sign in BRACKETS) or text.endswith("->"):
             self.fail(ROW)
         if word in TABLES or "->" in text:
-            self.fail("after 'rows' only rows and 'steps' may follow")
+            self.fail("after 'rows' only rows, 'steps' and 'columns' may follow")
         if word.startswith("{") or word == "raw":
             self.not_understood(word, text)
         if word == IDLE:
@@ -133,4 +133,4 @@ class ProductReader(Reader):
 
     def end_tables(self):
         if not self.tables.line:
-            self.fail("'steps' stands before 'rows': write the rows first")
+            self.fail(f"'{self.line.text.split()[0]}' stands before 'rows': write the rows first")

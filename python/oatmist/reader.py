@@ -5,24 +5,27 @@
 import re
 
 from . import aldebaran
+from .column_reader import ALONE, ColumnLines
 from .faults import Fault, cut, quoted
-from .indices import expanded
+from .indices import begins_columns, expanded
 from .letters import name_fault, odd_letter
-from .model import DESK, INTERNAL, Component, Execution, System
+from .model import DESK, INTERNAL, Component, System
 from .steps import Steps
 
 WORDS = ("actions", "component", "states", "initial", "also", "steps", "raw", "for", "from")
 ARROW = re.compile(r"([^\s<>-]+)\s*-(?:\s*([^\s<>-]+)\s*-)?>\s*([^\s<>-]+)")
 EXAMPLES = "write 'idle -produce-> full', or 'full -> idle' for an internal one"
 NO_STATE, NO_INITIAL = "state: write 'states' and their names", "initial state: write 'initial' and a state"
+NO_SYSTEM = "but no system: the file of the system comes first, then that of the execution"
 TABLES = (*WORDS[:5], "rows")  # with what lines of a system or of a product begin
-LINES = "a line begins with actions, component, states, initial, also, rows or steps, or is a transition such as 'idle -produce-> full'"
+LINES = ("a line begins with actions, component, states, initial, also, rows, steps or columns, "
+         "or is a transition such as 'idle -produce-> full'")
 
 
 def meant(word):
     """What to write for a word of the format that is not quite one; '' for others."""
     bare = word.rstrip(":=").casefold()
-    return next((f"write '{right}'" for right in (*TABLES, "steps") if bare in (right, right.rstrip("s"), right + "s")), "")
+    return next((f"write '{right}'" for right in (*TABLES, "steps", "columns") if bare in (right, right.rstrip("s"), right + "s")), "")
 
 
 class Reader:
@@ -36,7 +39,7 @@ class Reader:
         self.component = None
         self.places = {}  # components and transitions: their lines
         self.states = {}  # the states of the component: their numbers
-        self.steps = None
+        self.steps = None  # what takes the execution, once it has begun
         self.line = None
 
     def read(self, lines):
@@ -50,7 +53,7 @@ class Reader:
             if fault.line or fault.path:
                 raise
             raise Fault(fault.message + self.line.note, self.line.number, self.line.path) if self.line else fault
-        return self.tables, None if self.steps is None else Execution(self.steps.steps)
+        return self.tables, None if self.steps is None else self.steps.execution()
 
     def fail(self, message, line=None):
         line = line or self.line
@@ -60,10 +63,8 @@ class Reader:
         word, *rest = text.split()
         if self.steps is not None:
             self.take_steps(word, text)
-        elif word == "steps":
-            self.end_tables()
-            self.steps = Steps(self.tables.actions)
-            self.steps.take(text[len("steps"):])
+        elif word == "steps" or begins_columns(text):
+            self.begin_execution(word, text)
         elif word == "component":
             self.take_component(rest)
         elif word == "actions":
@@ -79,13 +80,27 @@ class Reader:
         else:
             self.not_understood(word, text)
 
+    def begin_execution(self, word, text):
+        if self.component is None:
+            self.fail(f"'{word}', {NO_SYSTEM}")
+        self.end_tables()
+        if word == "columns":
+            self.steps = ColumnLines(self.tables, self.line.number)
+            return
+        self.steps = Steps(self.tables.actions)
+        self.steps.take(text[len("steps"):])
+
     def not_understood(self, word, text):
         if text.startswith("{") or word == "raw":
-            self.fail("a step, but there is no line 'steps' above it: write one" if self.component else
-                      "a step, but no system: the file of the system comes first, then that of the execution")
+            self.fail("a step, but there is no line 'steps' above it: write one" if self.component else f"a step, {NO_SYSTEM}")
+        if word == "columns":
+            self.fail(ALONE)
         self.fail(f"not understood: {quoted(text)}; {meant(word) or odd_letter(text) or self.lines}")
 
     def take_steps(self, word, text):
+        if isinstance(self.steps, ColumnLines):
+            self.steps.take(text, self.line.number)
+            return
         if word == "steps":
             self.fail("'steps' stands twice: delete the second")
         if word in TABLES or "->" in text:
@@ -123,7 +138,7 @@ class Reader:
     def take_file(self, name):
         """The lines of an .aut file, as if they stood here."""
         if self.folder is None:
-            self.fail("a component from a file: hand in the steps alone")
+            self.fail("a component from a file: hand in the execution alone")
         if not name:
             self.fail("'from' names no file: write 'from sender.aut'")
         here = self.line

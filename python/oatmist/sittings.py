@@ -4,19 +4,20 @@
     for name in names("handed-in"):
         line = marked(marker, classes, "handed-in", name)
 
-A file is an execution as text, a text of a whole system with its execution, or a sheet. Of each file a sitting keeps its `Line`.
+A file is an execution as text, in steps or in columns, a text of a whole system with its execution, or a sheet. Of each file a sitting keeps
+its `Line`.
 """
 import codecs
 import os
 import stat
 from typing import NamedTuple
 
-from . import calls, inputs, sheet, text
+from . import calls, columns, inputs, sheet, text
 from .faults import Fault
 from .files import LONGEST, explain, inside
 from .inputs import is_sheet
 from .letters import decoded
-from .model import Execution
+from .model import Columns, Execution
 
 ACCEPTED, REFUSED, OTHER_SYSTEM, UNREADABLE = "accepted", "refused", "other-system", "unreadable"
 VERDICTS = (ACCEPTED, REFUSED, OTHER_SYSTEM, UNREADABLE)
@@ -111,7 +112,8 @@ class Marker:
     def __init__(self, system):
         self.system, self.form = system, sheet.Form(system)
         self.bare = self.form.sheet(Execution())
-        calls.opened()  # built first where that is needed, before anybody waits for the first file
+        for name in calls.ARGUMENTS:  # built first where that is needed, and whole, before anybody waits for the first file
+            calls.function(name)
 
     def sheet_of(self, name, data):
         """The sheet of a file, and whether it came with tables of its own."""
@@ -123,7 +125,7 @@ class Marker:
             raise Fault("this is no text, and no sheet: a sheet ends in hexadecimal 46 53")
         written = decoded(data)
         if not text.has_system(written):
-            return self.form.sheet(text.read_execution(written, self.system)), False
+            return columns.sheet_of(self.form, text.read_execution(written, self.system)), False
         return own_sheet(written, self.system), True
 
     def same_tables(self, given):
@@ -145,12 +147,14 @@ class Marker:
 
 def own_sheet(written, system):
     """The sheet of a text with a system or a product of its own, which names no other files, and calls the actions as this one does where
-    it has the same tables."""
+    it has the same tables. Over other tables columns are not looked at: the sheet then has no steps, and is refused by 14."""
     own, execution = inputs.read_text(written, folder=None)
     inputs.need_steps(execution)
     if inputs.same_tables(system, own):
         inputs.check_names(system, own)
-    return sheet.encode(own, execution)
+    elif isinstance(execution, Columns):
+        return sheet.encode(own)
+    return columns.sheet_of(sheet.Form(own), execution)
 
 
 def figures(given):

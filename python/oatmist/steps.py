@@ -3,13 +3,15 @@ import re
 
 from .faults import Fault, cut, quoted
 from .letters import as_typed, name_fault, odd_letter
-from .model import bits
+from .model import Execution, bits
 
 STEP = re.compile(r"\s*(?:\{([^{}]*)\}|raw(?:\s+([^\s{}]+))?)\s*")
 SIGNS = re.compile(r"[\s,;:+|&/，、–—-]+")  # what stands between actions where a comma should
+COLUMN = re.compile(r"[^\s{}:]+\s*:")  # with what a column begins
 BRACES = ("{", "}")
 MOST = 131072  # steps that are read; the desk refuses far fewer
 RAW = re.compile(r"0[xX]([0-9a-fA-F]{1,16})")
+BOTH = "an execution is written as steps or as columns: delete one of the two"
 
 
 class Steps:
@@ -33,10 +35,14 @@ class Steps:
 
     def hint(self, text):
         """How to write what stands where a step should."""
+        if text == "columns":
+            return BOTH
         if text.startswith("{") and "}" not in text:
             return "close the step with } in the same line"
         if text.startswith((",", ";")):
             return f"write no {text[0]} between steps"
+        if COLUMN.match(text):
+            return "write the steps alone, each as {a, b}; or, where these are columns, the word 'columns' in a line above them"
         first = SIGNS.split(text.strip())[0]
         return f"write {{{cut(first)}}}" if first in self.numbers else "write the steps alone, each as {a, b}"
 
@@ -68,7 +74,16 @@ class Steps:
         parts = SIGNS.split(word)
         if len(parts) > 1 and all(part in self.numbers for part in parts):
             raise Fault(f"no comma in {quoted(word)}: write {{{', '.join(parts)}}}")
-        for bare in as_typed(word):
-            if bare in self.numbers:
-                raise Fault(f"action {quoted(word)} is in no alphabet: write {bare}")
-        raise Fault(name_fault(bare) or f"action {quoted(word)} is in no alphabet: the system has {cut(' '.join(self.numbers), 300)}")
+        unknown_action(word, self.numbers)
+
+    def execution(self):
+        """The steps, once all are there."""
+        return Execution(self.steps)
+
+
+def unknown_action(word, numbers):
+    """Tells that a word is none of the actions, and what to write."""
+    for bare in as_typed(word):
+        if bare in numbers:
+            raise Fault(f"action {quoted(word)} is in no alphabet: write {bare}")
+    raise Fault(name_fault(bare) or f"action {quoted(word)} is in no alphabet: the system has {cut(' '.join(numbers), 300)}")

@@ -1,18 +1,23 @@
 """The readable text of systems, products and executions, read and written. docs/TEXT.md has the grammar.
 
-    system, execution = read(text)                    # the execution is None where the text has no 'steps'
+    system, execution = read(text)                    # the execution is None where the text has none
     product, execution = read_product(text)           # of a text with 'rows'
-    execution = read_execution(text, system)          # a text of steps alone
+    execution = read_execution(text, system)          # a text of steps or columns alone
     text = write(system, execution)
+
+An execution is an `Execution`, or `Columns` where it is written so; `columns.execution_of` makes the one of the other.
 
 What is wrong is told by `faults.Fault`, with its line and what to write instead. No verdict is given here: whether an execution can be
 carried out, is too long or has an empty step is for the desk to say.
 """
-from .faults import Fault
-from .indices import begins_rows, expanded, lines_of
-from .model import DESK, INTERNAL, Execution
+import itertools
+
+from .column_reader import ALONE, ColumnLines
+from .faults import Fault, quoted
+from .indices import begins_columns, begins_rows, expanded, lines_of
+from .model import DESK, INTERNAL, Columns
 from .product_reader import ProductReader
-from .reader import SystemReader
+from .reader import SystemReader, meant
 from .steps import Steps
 
 WIDTH = 80
@@ -34,36 +39,63 @@ def has_rows(text):
 
 
 def has_system(text):
-    """Whether a text describes a system or a product, and not steps alone."""
-    return any(line.text.split(None, 1)[0] in ("component", "actions") for line in lines_of(text))
+    """Whether a text describes a system or a product, and not an execution alone."""
+    lines = [line.text for line in lines_of(text)]
+    return not begins_columns(lines[0] if lines else "") and any(line.split(None, 1)[0] in ("component", "actions") for line in lines)
 
 
 def read_execution(text, system):
-    """The execution of a text that has steps alone, with or without the word 'steps' before them."""
-    steps, line, begun = Steps(system.actions), None, False
+    """The execution of a text that has it alone: columns below the word 'columns', or steps with or without the word 'steps' before them."""
     lines = list(lines_of(text))
     if not lines:
         raise Fault("nothing is written here: an execution without steps is the word 'steps' alone")
+    if begins_columns(lines[0].text):
+        columns = ColumnLines(system, lines[0].number)
+        return taken(itertools.islice(expanded(lines), 1, None), lambda line: columns.take(line.text, line.number), columns)
+    steps = StepLines(system.actions)
+    for line in lines:
+        if line.text[0] in "[(":
+            raise Fault("a step stands between braces: write {a, b}", line.number)
+    no_columns(lines[0], system)
+    return taken(expanded(lines), lambda line: steps.take_line(line.text), steps)
+
+
+def taken(lines, take, execution):
+    """The execution, once its lines are taken one by one."""
+    line = None
     try:
         for line in lines:
-            if line.text[0] in "[(":
-                raise Fault("a step stands between braces: write {a, b}")
-        for line in expanded(lines):
-            begun = take_steps_line(steps, line.text, begun)
+            take(line)
     except Fault as fault:
-        raise Fault(fault.message, fault.line or line.number, fault.path)
-    return Execution(steps.steps)
+        raise fault if fault.line else Fault(fault.message + line.note, line.number)
+    return execution.execution()
 
 
-def take_steps_line(steps, text, begun):
-    """One line of an execution; whether 'steps' has stood by now."""
-    if text.split(None, 1)[0] != "steps":
-        steps.take(text)
-        return begun
-    if begun or steps.steps:
-        raise Fault("'steps' stands a second time, or after steps: delete it")
-    steps.take(text[len("steps"):])
-    return True
+def no_columns(line, system):
+    """Tells of columns that do not begin as they must."""
+    if line.text.split(None, 1)[0] == "columns":
+        raise Fault(ALONE, line.number)
+    if meant(line.text) == "write 'columns'":
+        raise Fault(f"not understood: {quoted(line.text)}; write 'columns'", line.number)
+    name, colon, _ = line.text.partition(":")
+    if colon and name.strip() in (component.name for component in system.components):
+        raise Fault("columns stand below the word 'columns': write it in a line above them", line.number)
+
+
+class StepLines(Steps):
+    """Takes the lines of a text of steps alone."""
+
+    begun = False  # whether 'steps' has stood
+
+    def take_line(self, text):
+        """One line."""
+        if text.split(None, 1)[0] != "steps":
+            self.take(text)
+            return
+        if self.begun or self.steps:
+            raise Fault("'steps' stands a second time, or after steps: delete it")
+        self.begun = True
+        self.take(text[len("steps"):])
 
 
 def named_lines(word, names, indent):
@@ -104,6 +136,13 @@ def step_lines(system, execution):
     yield from (f"  {step_text(system, step)}" for step in execution.steps)
 
 
+def column_lines(system, columns):
+    """The lines of columns."""
+    yield "columns"
+    for component, actions in zip(system.components, columns.lists):
+        yield " ".join([f"  {component.name}:", *(system.actions[action] for action in actions)])
+
+
 def write_system(system):
     """The text of a system."""
     lines = list(named_lines("actions", system.actions, ""))
@@ -113,8 +152,9 @@ def write_system(system):
 
 
 def write_execution(system, execution):
-    """The text of an execution."""
-    return "\n".join(step_lines(system, execution)) + "\n"
+    """The text of an execution, as steps or as columns."""
+    lines = column_lines if isinstance(execution, Columns) else step_lines
+    return "\n".join(lines(system, execution)) + "\n"
 
 
 def write(system, execution=None):

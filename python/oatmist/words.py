@@ -3,13 +3,18 @@ import itertools
 import textwrap
 
 from . import calls, places
-from .faults import cut, listed
+from .faults import Fault, cut, listed
 from .mending import mending
 from .sheet import encode
 from .widths import columns_of
 
 WIDTH = 79  # columns of a terminal
 MOST = 4  # actions, pairs or components that one message tells about
+
+
+def plural(count, word):
+    """3 steps"""
+    return f"{count:,} {word}{'' if count == 1 else 's'}"
 
 
 def left_out(told, what):
@@ -35,15 +40,19 @@ def can_do(system, component, states):
     return f"can do {cut(listed(names, 'or'), 200)}" if names else "can do nothing"
 
 
+def hindrance(system, component, states, action):
+    """Why a component cannot do an action of its alphabet in these states; None where it can."""
+    if action in component.moves(states):
+        return None
+    if action not in component.moves(range(len(component.states))):
+        return f"{component.name} has it in its alphabet and no transition for it."
+    return f"{stands(component, states)}, where it {can_do(system, component, states)}."
+
+
 def blocked(system, sets, action):
     """Why an action is not possible: a sentence for each component that has no transition for it there."""
-    for component, states in zip(system.components, sets):
-        if action not in component.alphabet or action in component.moves(states):
-            continue
-        if action not in component.moves(range(len(component.states))):
-            yield f"{component.name} has it in its alphabet and no transition for it."
-        else:
-            yield f"{stands(component, states)}, where it {can_do(system, component, states)}."
+    told = (hindrance(system, component, states, action) for component, states in zip(system.components, sets) if action in component.alphabet)
+    return filter(None, told)
 
 
 def not_enabled(system, execution, index):
@@ -94,6 +103,11 @@ def refused(system, execution, refusal):
     return mending(encode(system, execution), refusal.number)
 
 
+def fault(system, execution, refusal):
+    """The same for a verb that then does nothing."""
+    return Fault(f"refused by {refusal.number}: {refused(system, execution, refusal)}", status=1)
+
+
 def verdict(system, execution, refusal):
     """The lines that tell a refusal."""
     return told(refusal.number, refused(system, execution, refusal))
@@ -110,9 +124,14 @@ def wrapped(paragraph, first="", others=""):
 
 
 def where(system, sets):
-    """For each component a line or more: its name, and where it may be."""
+    """For each component where it may be."""
+    told = (listed((component.states[state] for state in states), "or") for component, states in zip(system.components, sets))
+    return by_component(system, told)
+
+
+def by_component(system, told):
+    """For each component a line or more: its name, and what is told of it."""
     width = min(max(columns_of(component.name) for component in system.components), 30)
-    for component, states in zip(system.components, sets):
-        names = listed((component.states[state] for state in states), "or")
+    for component, text in zip(system.components, told):
         room = " " * (width - columns_of(component.name))
-        yield wrapped(names, f"  {component.name}{room}  ", " " * (width + 4)) + "\n"
+        yield wrapped(text, f"  {component.name}{room}  ", " " * (width + 4)) + "\n"

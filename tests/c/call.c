@@ -1,6 +1,6 @@
-/* The calls by the header, built as C and as C++: accepted sheets, refused ones, pairs and products, each with arrays lent for the answer
-   that are empty, null, too short, exact and longer (C1, D1; what each part is about stands above it). Its last line is 'N passed, 0
-   failed'. */
+/* The calls by the header, built as C and as C++: accepted sheets, refused ones, pairs, products and columns, each with arrays lent for
+   the answer that are empty, null, too short, exact and longer (C1, D1; what each part is about stands above it). Its last line is 'N
+   passed, 0 failed'. */
 #include "oatmist.h"
 #include <stdio.h>
 #include <string.h>
@@ -21,7 +21,7 @@ static void expect(int holds, const char *call, const char *what) {
 /* X4: one component with one state and action 0, no transitions, no steps. */
 static const uint8_t small[OATMIST_SHORTEST_SHEET] = {1, 0, 0, 0, 1, 0, 0, 0, 1, 0, 0, 0, 0, 0, 0, 0, 0, 0, 16, 0, 16, 0, 1, 1, 0x46, 0x53};
 
-/* A sheet, or a product, as a call is given it. */
+/* A sheet, or a product, or columns, as a call is given them. */
 struct sheet {
     const uint8_t *bytes;
     size_t length;
@@ -52,13 +52,14 @@ static struct sheet pair(uint8_t *bytes, size_t count, const uint8_t *steps) {
 
 /* ---- the calls ---- */
 
-enum call { CHECK, END_SETS, PROCESS, FIGURE, STUCK, RESTATE, REPORT, SAME_WORK, WINNER, ROWS };
+enum call { CHECK, END_SETS, PROCESS, FIGURE, STUCK, RESTATE, REPORT, SAME_WORK, WINNER, ROWS, COLUMNS };
 
 static const struct {
     const char *name;
     size_t values;
 } calls[] = {{"check", 4},   {"end sets", OATMIST_COMPONENTS}, {"process check", 1}, {"figure", 1}, {"stuck", 1},
-             {"restate", 1}, {"report", 1},                    {"same work", 1},     {"winner", 1}, {"rows", 1}};
+             {"restate", 1}, {"report", 1},                    {"same work", 1},     {"winner", 1}, {"rows", 1},
+             {"columns", 1}};
 
 #define ANSWER_ROOM 20
 #define OUT_ROOM 200
@@ -80,6 +81,7 @@ static uint64_t make(enum call call, struct sheet one, struct sheet two, size_t 
     case SAME_WORK: return oatmist_same_work(one.bytes, one.length, two.bytes, two.length, a, room);
     case WINNER: return oatmist_winner(one.bytes, one.length, two.bytes, two.length, a, room);
     case ROWS: return oatmist_rows(one.bytes, one.length, o, out_room, a, room);
+    case COLUMNS: return oatmist_columns(one.bytes, one.length, two.bytes, two.length, o, out_room, a, room);
     }
     return 0;
 }
@@ -247,25 +249,33 @@ static const uint8_t product[20] = {2, 3, 2, 0, 2, 0, 1, 1, 0, 1, 0, 1, 0, 0, 0,
 static const uint8_t product_sheet[58] = {2, 0, 0, 0, 1, 0, 0, 0, 3, 0, 0, 0, 0, 0, 0, 0, 1, 0, 0, 0, 1, 0, 0, 0, 6, 0, 0, 0, 0, 0, 0, 0,
                                           0, 0, 0, 1, 0, 1, 1, 0, 1, 0, 1, 0, 1, 0, 2, 0, 0, 0, 32, 0, 48, 0, 2, 3, 0x46, 0x53};
 
-/* B6, R13, O5: a product of which this sheet is due, with outputs of every length up to two bytes more; and the desk accepts the sheet. */
-static void becomes(const char *what, struct sheet given, struct sheet due) {
+/* R13, O5: a call that writes these bytes, with outputs of every length up to two bytes more. */
+static void writes(const char *what, enum call call, struct sheet one, struct sheet two, struct sheet due) {
     const uint64_t length = due.length;
-    const uint64_t sizes[4] = {given.bytes[0], given.bytes[1], 16 * (uint64_t)given.bytes[0], length - 10};
     size_t room;
     for (room = 0; room <= due.length + 2; room++)
-        judge(what, ROWS, given, nothing, room, room < due.length ? OATMIST_REFUSAL_OUTPUT : 0, &length, due.bytes, due.length);
-    judge(what, ROWS, given, nothing, OUT_ROOM, 0, &length, due.bytes, due.length);
+        judge(what, call, one, two, room, room < due.length ? OATMIST_REFUSAL_OUTPUT : 0, &length, due.bytes, due.length);
+    judge(what, call, one, two, OUT_ROOM, 0, &length, due.bytes, due.length);
+}
+
+/* O5: a call that refuses like this, whatever is lent. */
+static void writes_nothing(const char *what, enum call call, struct sheet one, struct sheet two, uint64_t told) {
+    const size_t rooms[] = {0, 1, 57, 58, OUT_ROOM};
+    size_t k;
+    for (k = 0; k < sizeof rooms / sizeof rooms[0]; k++)
+        judge(what, call, one, two, rooms[k], told, NULL, NULL, 0);
+}
+
+/* B6: a product of which this sheet is due, which the desk accepts. */
+static void becomes(const char *what, struct sheet given, struct sheet due) {
+    const uint64_t sizes[4] = {given.bytes[0], given.bytes[1], 16 * (uint64_t)given.bytes[0], due.length - 10};
+    writes(what, ROWS, given, nothing, due);
     gives(what, CHECK, due, sizes);
     gives_one(what, PROCESS, due, 0);
 }
 
-/* O5, O8: a product that is refused like this, whatever is lent. */
-static void product_refused(const char *what, struct sheet given, uint64_t told) {
-    const size_t rooms[] = {0, 1, sizeof product_sheet - 1, sizeof product_sheet, OUT_ROOM};
-    size_t k;
-    for (k = 0; k < sizeof rooms / sizeof rooms[0]; k++)
-        judge(what, ROWS, given, nothing, rooms[k], told, NULL, NULL, 0);
-}
+/* O8: a product that is refused like this. */
+static void product_refused(const char *what, struct sheet given, uint64_t told) { writes_nothing(what, ROWS, given, nothing, told); }
 
 /* The product with two of its bytes changed, or the same byte twice. */
 static void changed(const char *what, size_t at, uint8_t value, size_t at2, uint8_t value2, uint64_t told) {
@@ -340,6 +350,110 @@ static void longest(void) {
     expect(written == sizeof sheet, "rows", "the length of the longest sheet");
 }
 
+/* V2: the columns of {0} {1} {2} {0} over Pair: 0 2 0, and 1 2. */
+static const uint8_t pair_columns[9] = {3, 0, 0, 2, 0, 2, 0, 1, 2};
+
+/* O9: columns over Pair that are refused like this, be the sheet with or without steps. */
+static void pair_columns_refused(const char *what, const uint8_t *bytes, size_t length, uint64_t told) {
+    const struct sheet columns = {bytes, length};
+    const uint8_t steps[2] = {2, 1};
+    uint8_t b1[PAIR_ROOM], b2[PAIR_ROOM];
+    writes_nothing(what, COLUMNS, pair(b1, 0, steps), columns, told);
+    writes_nothing(what, COLUMNS, pair(b2, 2, steps), columns, told);
+}
+
+/* R18, R19: the columns over Pair with one of their bytes changed. */
+static void column_changed(const char *what, size_t at, uint8_t value, uint64_t told) {
+    uint8_t bytes[sizeof pair_columns];
+    memcpy(bytes, pair_columns, sizeof pair_columns);
+    bytes[at] = value;
+    pair_columns_refused(what, bytes, sizeof bytes, told);
+}
+
+/* V1 to V4, R13, R18, R19, O9: an execution from columns, over Pair. */
+static void columns(void) {
+    static const uint8_t none[4] = {0, 0, 0, 0}, behind[10] = {3, 0, 0, 2, 0, 2, 0, 1, 2, 0}, not_enabled[6] = {1, 0, 2, 1, 0, 2};
+    static const struct sheet right = {pair_columns, sizeof pair_columns}, empty = {none, sizeof none}, one_empty = {none, 2};
+    const uint8_t own[4] = {1, 2, 4, 1}, packed[3] = {3, 4, 1}, again[2] = {1, 1};
+    uint8_t b1[PAIR_ROOM], b2[PAIR_ROOM], b3[PAIR_ROOM];
+    const struct sheet due = pair(b2, 3, packed), bare = pair(b3, 0, own);
+    size_t k;
+    for (k = 0; k <= 4; k++) {
+        writes("Pair", COLUMNS, pair(b1, k, own), right, due);
+        writes("Pair, nothing done", COLUMNS, pair(b1, k, own), empty, bare);
+    }
+    gives_one("Pair by columns", PROCESS, due, 0);
+    writes("smallest", COLUMNS, smallest, one_empty, smallest);
+    for (k = 0; k < sizeof pair_columns; k++)
+        pair_columns_refused("cut", pair_columns, k, OATMIST_REFUSAL_COLUMNS);
+    pair_columns_refused("no columns", NULL, 0, OATMIST_REFUSAL_COLUMNS);
+    pair_columns_refused("a byte behind", behind, sizeof behind, OATMIST_REFUSAL_COLUMNS);
+    column_changed("a count too small", 5, 1, OATMIST_REFUSAL_COLUMNS);
+    column_changed("a count too large", 5, 3, OATMIST_REFUSAL_COLUMNS);
+    column_changed("a count of 65,282", 6, 255, OATMIST_REFUSAL_COLUMNS);
+    column_changed("a first count of 65,283", 1, 255, OATMIST_REFUSAL_COLUMNS);
+    column_changed("an action of the other component", 2, 1, OATMIST_REFUSAL_COLUMNS);
+    column_changed("no action", 8, 3, OATMIST_REFUSAL_COLUMNS);
+    column_changed("label 64", 2, 64, OATMIST_REFUSAL_COLUMNS);
+    column_changed("the internal label", 7, 255, OATMIST_REFUSAL_COLUMNS);
+    column_changed("a shared action once less", 8, 1, OATMIST_REFUSAL_NO_EXECUTION);
+    column_changed("a shared action once more", 4, 2, OATMIST_REFUSAL_NO_EXECUTION);
+    pair_columns_refused("not enabled", not_enabled, sizeof not_enabled, OATMIST_REFUSAL_NO_EXECUTION);
+    writes_nothing("no sheet", COLUMNS, nothing, right, OATMIST_REFUSAL_LENGTH);
+    writes_nothing("nothing at all", COLUMNS, nothing, nothing, OATMIST_REFUSAL_LENGTH);
+    writes_nothing("a cut sheet", COLUMNS, cut, one_empty, OATMIST_REFUSAL_LENGTH);
+    writes_nothing("its own steps", COLUMNS, pair(b1, 2, again), right, refusal(OATMIST_REFUSAL_NOT_ENABLED, 0, 1));
+    writes_nothing("its own steps, no columns", COLUMNS, pair(b1, 2, again), nothing, refusal(OATMIST_REFUSAL_NOT_ENABLED, 0, 1));
+}
+
+/* R19: two components that share both their actions, and agree on the order, or wait for each other. */
+static void waiting(void) {
+    static const uint8_t both[58] = {1, 0, 0, 0, 1, 0, 0, 0, 3, 0, 0, 0, 0, 0, 0, 0, 1, 0, 0, 0, 1, 0, 0, 0, 3, 0, 0, 0, 0, 0, 0, 0,
+                                     0, 0, 0, 0, 0, 0, 1, 0, 1, 0, 0, 0, 1, 0, 1, 0, 0, 0, 32, 0, 48, 0, 2, 2, 0x46, 0x53};
+    static const uint8_t agreed[8] = {2, 0, 0, 1, 2, 0, 0, 1}, waits[8] = {2, 0, 0, 1, 2, 0, 1, 0};
+    static const struct sheet sheet = {both, sizeof both}, order = {agreed, sizeof agreed}, circle = {waits, sizeof waits};
+    uint8_t bytes[sizeof both + 16] = {0};
+    const struct sheet due = {bytes, sizeof bytes};
+    memcpy(bytes, both, 48);
+    bytes[48] = 1;
+    bytes[56] = 2;
+    memcpy(bytes + 64, both + 48, 10);
+    writes("agreed", COLUMNS, sheet, order, due);
+    writes_nothing("a circle", COLUMNS, sheet, circle, OATMIST_REFUSAL_NO_EXECUTION);
+}
+
+/* R13, R18: the longest sheet from columns, OATMIST_LONGEST_SHEET bytes, over sixteen components of 32 states with four actions each:
+   component 0 does action 0 as often as columns have labels. */
+static void longest_columns(void) {
+    enum { TABLES = 16 * OATMIST_COMPONENTS + 4 * 2048, LABELS = 1024 };
+    static uint8_t sheet[TABLES + 10], bytes[2 * OATMIST_COMPONENTS + LABELS + 1], made[OATMIST_LONGEST_SHEET];
+    static const uint8_t trailer[10] = {0, 0, 0, 1, TABLES & 255, TABLES >> 8, OATMIST_COMPONENTS, 64, 0x46, 0x53};
+    uint8_t *at = sheet + 16 * OATMIST_COMPONENTS;
+    uint64_t written = 0;
+    int j, q, a;
+    for (j = 0; j < OATMIST_COMPONENTS; j++) {
+        sheet[16 * j] = 32;
+        sheet[16 * j + 4] = 1;
+        sheet[16 * j + 8 + j / 2] = (uint8_t)(j % 2 == 0 ? 0x0f : 0xf0);
+        for (q = 0; q < 32; q++)
+            for (a = 4 * j; a < 4 * j + 4; a++, at += 4) {
+                at[0] = (uint8_t)j;
+                at[1] = (uint8_t)q;
+                at[2] = (uint8_t)a;
+                at[3] = (uint8_t)((q + 1) % 32);
+            }
+    }
+    memcpy(at, trailer, sizeof trailer);
+    bytes[1] = LABELS >> 8;
+    expect(oatmist_columns(sheet, sizeof sheet, bytes, sizeof bytes - 1, made, sizeof made - 1, &written, 1) == OATMIST_REFUSAL_OUTPUT,
+           "columns", "a byte too few");
+    expect(oatmist_columns(sheet, sizeof sheet, bytes, sizeof bytes - 1, made, sizeof made, &written, 1) == 0, "columns", "the longest sheet");
+    expect(written == sizeof made, "columns", "the length of the longest sheet");
+    bytes[0] = 1;
+    expect(oatmist_columns(sheet, sizeof sheet, bytes, sizeof bytes, made, sizeof made, &written, 1) == OATMIST_REFUSAL_COLUMNS, "columns",
+           "a label too many");
+}
+
 int main(void) {
     taken_apart();
     accepted();
@@ -347,6 +461,9 @@ int main(void) {
     pairs();
     products();
     longest();
+    columns();
+    waiting();
+    longest_columns();
     printf("%d passed, %d failed\n", passed, failed);
     return failed != 0;
 }

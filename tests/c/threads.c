@@ -10,24 +10,27 @@
 
 static int passed, failed;
 
-/* ---- sheets and products: X4, the smallest, and L1 to L7 and R15 at their most ---- */
+/* ---- sheets, products and columns: X4, the smallest, and L1 to L7, R15 and R18 at their most ---- */
 
 #define LONGEST_PRODUCT (2 + 16 * (3 + 2 * 255) + 16 * 64)
 static uint8_t smallest[OATMIST_SHORTEST_SHEET], largest[OATMIST_LONGEST_SHEET], internal[OATMIST_LONGEST_SHEET];
 static uint8_t one_row[8], all_rows[LONGEST_PRODUCT], alike[LONGEST_PRODUCT];
+static uint8_t empty[2], spread[2 * OATMIST_COMPONENTS + 1024], single[2 * OATMIST_COMPONENTS + 1024];
 
-/* What a call is given: so many sheets, or so many products. */
+/* What a call is given: so many sheets, each with columns for the call that wants them, or so many products. */
 #define GIVEN 3
 static const struct given {
     const char *name;
     const uint8_t *bytes;
     size_t length;
-} sheets[GIVEN] = {{"smallest sheet", smallest, sizeof smallest},
-                   {"largest sheet", largest, sizeof largest},
-                   {"internal sheet", internal, sizeof internal}},
-  products[GIVEN] = {{"smallest product", one_row, sizeof one_row},
-                     {"largest product", all_rows, sizeof all_rows},
-                     {"rows alike", alike, sizeof alike}};
+    const uint8_t *columns;
+    size_t columns_length;
+} sheets[GIVEN] = {{"smallest sheet", smallest, sizeof smallest, empty, sizeof empty},
+                   {"largest sheet", largest, sizeof largest, spread, sizeof spread},
+                   {"internal sheet", internal, sizeof internal, single, sizeof single}},
+  products[GIVEN] = {{"smallest product", one_row, sizeof one_row, NULL, 0},
+                     {"largest product", all_rows, sizeof all_rows, NULL, 0},
+                     {"rows alike", alike, sizeof alike, NULL, 0}};
 
 static void put2(uint8_t *bytes, size_t value) {
     bytes[0] = (uint8_t)(value & 255);
@@ -77,6 +80,19 @@ static void make(uint8_t *sheet, size_t components, size_t states, size_t action
     at[9] = 0x53;
 }
 
+/* V2: columns of so many labels each, for components with actions of their own as `make` gives them; the other columns are empty. */
+static void make_columns(uint8_t *columns, size_t components, size_t actions, size_t labels) {
+    uint8_t *at = columns;
+    size_t j, k;
+    for (j = 0; j < OATMIST_COMPONENTS; j++) {
+        const size_t count = j < components ? labels : 0;
+        put2(at, count);
+        at += 2;
+        for (k = 0; k < count; k++)
+            *at++ = (uint8_t)(actions * j + k % actions);
+    }
+}
+
 /* B5: components with states and transitions, and rows that differ in the last component, and in the others too unless they are alike. */
 static void make_product(uint8_t *product, size_t components, size_t states, size_t transitions, size_t rows, int same) {
     uint8_t *at = product;
@@ -97,7 +113,7 @@ static void make_product(uint8_t *product, size_t components, size_t states, siz
             *at++ = (uint8_t)(same && j + 1 < components ? 0 : (g + j) % transitions);
 }
 
-/* ---- the calls: each on a sheet or a product, those on two sheets on the same one twice ---- */
+/* ---- the calls: each on a sheet, with or without columns, or a product; those on two sheets on the same one twice ---- */
 
 /* What is lent to a call. */
 struct lent {
@@ -107,7 +123,11 @@ struct lent {
 };
 
 #define CALL(name, arguments) \
-    static uint64_t name(const uint8_t *s, size_t l, struct lent *lent) { return oatmist_##name arguments; }
+    static uint64_t name(const struct given *given, struct lent *lent) { \
+        const uint8_t *s = given->bytes; \
+        const size_t l = given->length; \
+        return oatmist_##name arguments; \
+    }
 CALL(check, (s, l, lent->values, OATMIST_COMPONENTS))
 CALL(end_sets, (s, l, lent->values, OATMIST_COMPONENTS))
 CALL(process, (s, l, lent->values, OATMIST_COMPONENTS))
@@ -118,15 +138,16 @@ CALL(report, (s, l, lent->out, sizeof lent->out, lent->values, OATMIST_COMPONENT
 CALL(same_work, (s, l, s, l, lent->values, OATMIST_COMPONENTS))
 CALL(winner, (s, l, s, l, lent->values, OATMIST_COMPONENTS))
 CALL(rows, (s, l, lent->out, OATMIST_ROWS_ROOM, lent->values, OATMIST_COMPONENTS))
-static uint64_t leaner(const uint8_t *s, size_t l, struct lent *lent) {
-    oatmist_leaner(s, l, s, l, &lent->part);
+CALL(columns, (s, l, given->columns, given->columns_length, lent->out, sizeof lent->out, lent->values, OATMIST_COMPONENTS))
+static uint64_t leaner(const struct given *given, struct lent *lent) {
+    oatmist_leaner(given->bytes, given->length, given->bytes, given->length, &lent->part);
     return 0;
 }
 
 /* Each call, the KiB of stack that oatmist.h says it takes at most, and what it is given. */
 static const struct {
     const char *name;
-    uint64_t (*make)(const uint8_t *, size_t, struct lent *);
+    uint64_t (*make)(const struct given *, struct lent *);
     size_t kib;
     const struct given *given;
 } calls[] = {{"check", check, 8, sheets},
@@ -134,12 +155,13 @@ static const struct {
              {"process", process, 8, sheets},
              {"figure", figure, 16, sheets},
              {"stuck", stuck, 9, sheets},
-             {"restate", restate, 16, sheets},
+             {"restate", restate, 10, sheets},
              {"report", report, 33, sheets},
              {"same_work", same_work, 24, sheets},
              {"winner", winner, 16, sheets},
              {"leaner", leaner, 16, sheets},
-             {"rows", rows, 3, products}};
+             {"rows", rows, 3, products},
+             {"columns", columns, 19, sheets}};
 #define CALLS (sizeof calls / sizeof calls[0])
 
 /* ---- the stack: D1, every call ends ---- */
@@ -159,7 +181,7 @@ static void *run(void *given) {
     static struct lent lent;
     struct job *job = (struct job *)given;
     job->from = (char *)__builtin_frame_address(0);
-    job->told = calls[job->call].make(job->given->bytes, job->given->length, &lent);
+    job->told = calls[job->call].make(job->given, &lent);
     return NULL;
 }
 
@@ -218,7 +240,7 @@ static void ask(struct answers *answers) {
     memset(answers, 0, sizeof *answers);
     for (call = 0; call < CALLS; call++)
         for (k = 0; k < GIVEN; k++)
-            answers->told[call][k] = calls[call].make(calls[call].given[k].bytes, calls[call].given[k].length, &answers->lent[call][k]);
+            answers->told[call][k] = calls[call].make(&calls[call].given[k], &answers->lent[call][k]);
 }
 
 /* The same again and again; gives back its argument where nothing ever differed. */
@@ -254,6 +276,8 @@ int main(int count, char **arguments) {
     make(smallest, 1, 1, 1, 0, 0);
     make(largest, 16, 32, 4, 0, 1024);
     make(internal, 16, 32, 3, 1, 1024);
+    make_columns(spread, OATMIST_COMPONENTS, 4, 1024 / OATMIST_COMPONENTS);
+    make_columns(single, 1, 3, 1024);
     make_product(one_row, 1, 1, 1, 1, 0);
     make_product(all_rows, 16, 32, 255, 64, 0);
     make_product(alike, 16, 32, 255, 64, 1);

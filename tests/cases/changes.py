@@ -1,4 +1,4 @@
-"""Changes in the bytes of a sheet (S3 to S6) or of a product (B5): README.md has their words."""
+"""Changes in the bytes of a sheet (S3 to S6), of a product (B5) or of columns (V2): README.md has their words."""
 import re
 
 TRAILER = {"C": (0, 2), "T": (2, 2), "S": (4, 2), "n": (6, 1), "m": (7, 1)}

@@ -22,7 +22,7 @@ class Line:
 
 
 class Given:
-    """A sheet or a product of a case: the lines of its text, with no repetition left, and the changes in the bytes made of them."""
+    """A sheet, a product or columns of a case: the lines of its text, with no repetition left, and the changes in the bytes made of them."""
 
     def __init__(self, text):
         self.text, self.changes = text, []
@@ -36,11 +36,12 @@ class Question:
 
 
 class Case:
-    """A case: its label, what it shows, its product and its sheets, and its questions with what is due."""
+    """A case: its label, what it shows, its product, its sheets and columns, what was given last, and its questions with what is due."""
 
     def __init__(self, line, label):
         self.line, self.label = line, label
-        self.shows, self.product, self.sheets, self.questions = None, None, [], []
+        self.shows, self.product, self.columns, self.sheets, self.questions = None, None, None, [], []
+        self.last = None
 
 
 # ---- repetition ----------------------------------------------------------------------------------
@@ -138,12 +139,12 @@ def read_sheet(systems, line, rest, lines):
     return Given(expanded(systems.get(rest, [])) + expanded(lines))
 
 
-def read_product(case, line, rest, lines):
-    """A product by lines; it stands before the sheet that it becomes."""
+def read_lines(line, rest, lines, in_place):
+    """A product, or columns: the lines below the word."""
     if rest or not lines:
-        raise Malformed(line.number, "the lines of a product stand below the word")
-    if case.product or case.sheets:
-        raise Malformed(line.number, "'product' out of place")
+        raise Malformed(line.number, f"the lines stand below the word '{line.text}'")
+    if not in_place:
+        raise Malformed(line.number, f"'{line.text}' out of place")
     return Given(expanded(lines))
 
 
@@ -158,14 +159,16 @@ def read_item(case, systems, line, lines):
     elif word in ("sheet", "second"):
         if len(case.sheets) != ("sheet", "second").index(word):
             raise Malformed(line.number, f"'{word}' out of place")
-        case.sheets.append(read_sheet(systems, line, rest, lines))
-    elif word == "product":
-        case.product = read_product(case, line, rest, lines)
+        case.last = read_sheet(systems, line, rest, lines)
+        case.sheets.append(case.last)
+    elif word == "product":  # before the sheet that it becomes
+        case.last = case.product = read_lines(line, rest, lines, case.last is None)
+    elif word == "columns":  # behind the one sheet that they are given with
+        case.last = case.columns = read_lines(line, rest, lines, [case.last] == case.sheets and not case.product)
     elif word == "change":
-        given = case.sheets[-1] if case.sheets else case.product
-        if not given or not rest:
+        if not case.last or not rest:
             raise Malformed(line.number, "'change' out of place")
-        given.changes.append(Line(line.number, 0, rest))
+        case.last.changes.append(Line(line.number, 0, rest))
     else:
         case.questions.append(Question(line.number, word, rest, lines))
     if lines and word in ("shows", "change"):

@@ -18,6 +18,7 @@ SHEETS = os.path.join(TOP, "sheets")
 sys.path.insert(0, os.path.join(TOP, "python"))
 
 from oatmist import cli
+from oatmist.faults import Fault, Unfit
 from oatmist.model import INTERNAL, Component, Execution, System
 
 PAIR = os.path.join(SHEETS, "pair.txt")
@@ -66,6 +67,16 @@ class Case(unittest.TestCase):
         with open(os.path.join(self.folder, name), "rb") as file:
             return file.read()
 
+    def faults(self, rows, read):
+        """Each of these texts is told as a fault when it is read: rows of the line that is told, what is said, and the text."""
+        for line, message, bad in rows:
+            with self.subTest(message), self.assertRaises(Fault) as found:
+                read(bad)
+            self.assertNotIsInstance(found.exception, Unfit)
+            self.assertIn(message, found.exception.message)
+            self.assertEqual(found.exception.line, line, message)
+            self.assertLess(len(str(found.exception)), 1300)
+
     def call(self, *words):
         """The command in this process."""
         out, told = Stream(), Stream()
@@ -103,6 +114,24 @@ def random_execution(dice, system, steps=6):
     """Some steps, good and bad ones."""
     count = len(system.actions)
     return Execution([sorted(dice.sample(range(count), dice.randint(1, min(count, 3)))) for _ in range(dice.randint(0, steps))])
+
+
+def unfit(made):
+    """What the desk refuses while something is made: the number, the line and the words; None where it refuses nothing."""
+    try:
+        made()
+    except Unfit as fault:
+        return fault.number, fault.line, fault.sentence
+    return None
+
+
+def damaged(dice, whole, signs):
+    """A text without its end, with some letters changed, or without one of its lines."""
+    place = dice.randrange(len(whole))
+    lines = whole.split("\n")
+    del lines[dice.randrange(len(lines))]
+    changed = whole[:place] + dice.choice(signs) + whole[place + dice.randint(0, 1):]
+    return dice.choice((whole[:place], changed, "\n".join(lines)))
 
 
 def dice(seed):

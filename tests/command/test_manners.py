@@ -28,6 +28,12 @@ class Quiet(common.Case):
         for part in parts:
             self.assertIn(part, answer.told)
 
+    def answered(self, answer, said):
+        """The command answered on standard output, or told in one line why it could not; which of these, by the exit status."""
+        self.assertNotIn("Traceback", answer.told)
+        self.assertEqual((answer.out == "", answer.told.count("\n")), (answer.status == 2, int(answer.status == 2)), said)
+        return answer.status
+
     def left(self, *names):
         self.assertEqual(sorted(os.listdir(self.folder)), sorted(names))
 

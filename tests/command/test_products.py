@@ -7,7 +7,7 @@ from unittest import mock
 import common
 from common import PAIR
 from oatmist import calls, inputs, places, product, rows, sheet, text
-from oatmist.faults import Fault, Unfit
+from oatmist.faults import Fault
 from test_manners import Quiet
 from test_text import many
 
@@ -53,9 +53,9 @@ def of_rows(count, transitions=None):
 BAD = [  # the line that is told, what is said, the text
     (10, "'rows' stands alone in its line", HEAD + "rows a x -"),
     (14, "'rows' stands twice: delete the second", TWO + "rows"),
-    (14, "after 'rows' only rows and 'steps' may follow", TWO + "component C"),
-    (14, "after 'rows' only rows and 'steps' may follow", TWO + "s -z-> t"),
-    (14, "after 'rows' only rows and 'steps' may follow", TWO + "states v"),
+    (14, "after 'rows' only rows, 'steps' and 'columns' may follow", TWO + "component C"),
+    (14, "after 'rows' only rows, 'steps' and 'columns' may follow", TWO + "s -z-> t"),
+    (14, "after 'rows' only rows, 'steps' and 'columns' may follow", TWO + "states v"),
     (14, "no line 'steps' above it", TWO + "{a}"),
     (14, "no line 'steps' above it", TWO + "raw 0x1"),
     (14, "no step: ' a'; write {a}", TWO + "steps a"),
@@ -105,7 +105,7 @@ BAD = [  # the line that is told, what is said, the text
     (4, "a product has no 'also'", TWO.replace(" s -x-> t", " also x")),
     (1, "a product has no 'actions': its rows are its actions", "actions a b\n" + TWO),
     (5, "unknown state 'v': component 'A' has s t", TWO.replace("t -y-> s", "t -y-> v")),
-    (4, "not understood: 'x: s t'; a line begins with component, states, initial, rows or steps", TWO.replace("s -x-> t", "x: s t")),
+    (4, "not understood: 'x: s t'; a line begins with component, states, initial, rows, steps or columns", TWO.replace("s -x-> t", "x: s t")),
     # more than a byte counts
     (1021, "more than 255 components: 'P256' would be one too many", crowd(256)),
     (2, "more than 255 states in component 'P': 's256'", of_states(256)),
@@ -136,24 +136,15 @@ REFUSED = [  # the number, the line, what is said, the text
 
 def told(said):
     """The refusal that the product of a text gets: its number, its line and its words; None where it gets none."""
-    try:
-        inputs.read_text(said)
-    except Unfit as fault:
-        return fault.number, fault.line, fault.sentence
-    return None
+    return common.unfit(lambda: inputs.read_text(said))
 
 
 class Faults(common.Case):
     """B5, R15: each bad text is told with its line; the call is not even made."""
 
     def test_bad_texts(self):
-        for line, message, bad in BAD:
-            with self.subTest(message), self.assertRaises(Fault) as found, mock.patch("oatmist.calls.rows", side_effect=AssertionError):
-                inputs.read_text(bad)
-            self.assertNotIsInstance(found.exception, Unfit)
-            self.assertIn(message, found.exception.message)
-            self.assertEqual(found.exception.line, line, message)
-            self.assertLess(len(str(found.exception)), 1300)
+        with mock.patch("oatmist.calls.rows", side_effect=AssertionError):
+            self.faults(BAD, inputs.read_text)
 
     def test_a_component_from_a_file(self):
         self.write("b.aut", 'des (0, 1, 1)\n(0, "u", 0)\n')
@@ -353,7 +344,7 @@ class Verbs(Quiet):
         self.assertEqual([lines[name]["verdict"] for name in ("less", "other", "wrong")], ["accepted", "other-system", "refused"])
         self.assertEqual({name for name, line in lines.items() if line["verdict"] == "unreadable"}, {"refused", "files", "unknown"})
         self.assertTrue(lines["refused"]["reason"].startswith("line 13: no product, refused by 16: Row c repeats row a of line 11: change"))
-        self.assertIn("a component from a file: hand in the steps alone", lines["files"]["reason"])
+        self.assertIn("a component from a file: hand in the execution alone", lines["files"]["reason"])
         self.assertEqual(answer.status, 1)
 
 
@@ -379,15 +370,8 @@ class Manners(Quiet):
         dice, seen = common.dice(17), set()
         whole = example("peterson.txt")
         for _ in range(1500):
-            place = dice.randrange(len(whole))
-            lines = whole.split("\n")
-            del lines[dice.randrange(len(lines))]
-            changed = whole[:place] + dice.choice("-x \n#{}[0>ε–") + whole[place + dice.randint(0, 1):]
-            said = dice.choice((whole[:place], changed, "\n".join(lines)))
-            answer = self.call("mark", self.write("damaged.txt", said))
-            seen.add(answer.status)
-            self.assertNotIn("Traceback", answer.told)
-            self.assertEqual((answer.out == "", answer.told.count("\n")), (answer.status == 2, int(answer.status == 2)), said)
+            said = common.damaged(dice, whole, "-x \n#{}[0>ε–")
+            seen.add(self.answered(self.call("mark", self.write("damaged.txt", said)), said))
         self.assertEqual(seen, {0, 1, 2})
 
     def test_long_lines(self):

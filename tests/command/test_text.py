@@ -55,7 +55,7 @@ BAD = [  # the line that is told, what is said, the text
     (1, "before the first component", "states s"),
     (1, "before the first component", "s -> s"),
     (1, "there is no component", "# nothing"),
-    (1, "there is no component", "steps"),
+    (1, "'steps', but no system: the file of the system comes first", "steps"),
     (1, "there is no component", ""),
     (5, "'also' names nothing", ONE + "\n also"),
     (5, "not understood: 'begin s'", ONE + "\n begin s"),
@@ -140,12 +140,7 @@ class Faults(common.Case):
     """L1 to L7, R5 to R8: each bad text is told with its line."""
 
     def test_bad_texts(self):
-        for line, message, bad in BAD:
-            with self.subTest(message), self.assertRaises(Fault) as told:
-                text.read(bad)
-            self.assertIn(message, told.exception.message)
-            self.assertEqual(told.exception.line, line, message)
-            self.assertLess(len(str(told.exception)), 1300)
+        self.faults(BAD, text.read)
 
     def test_as_many_as_there_may_be(self):
         system, execution = text.read(crowd(16) + "\nsteps\n" + lines("{a}", 1024))

@@ -78,7 +78,7 @@ class Make(common.Case):
         said = "component P\n states s\n initial s\n s -{}-> s\ncomponent Q\n states s\n initial s\n s -{}-> s\n"
         self.write("xy.txt", said.format("x", "y"))
         self.write("yx.txt", said.format("y", "x") + "steps {x}")
-        told = "yx.txt: action 0 is called 'y' here and 'x' in the system: hand in the steps alone, in its names\n"
+        told = "yx.txt: action 0 is called 'y' here and 'x' in the system: hand in the execution alone, in its names\n"
         for verb in ("mark", "next", "make", "picture"):
             self.assertEqual(self.call(verb, "xy.txt", "yx.txt"), (2, "", told))
         os.mkdir("in")
@@ -375,9 +375,9 @@ class Command(common.Case):
         self.assertEqual(os.listdir(self.folder), [])
 
     def test_words_that_do_not_go_together(self):
-        for more in (["-o", "made"], ["--steps"], ["-o", "made", "--steps"]):
+        for more in (["-o", "made"], ["--steps"], ["--columns"], ["-o", "made", "--steps"]):
             self.assertEqual(self.call("show", PAIR, "--aut", "out", *more),
-                             (2, "", "oatmist: --aut writes components to files of their own: leave out -o and --steps\n"))
+                             (2, "", "oatmist: --aut writes components to files of their own: leave out -o, --steps and --columns\n"))
         self.assertEqual(os.listdir(self.folder), [])
 
     def test_wrong_words_are_cut_and_cleaned(self):

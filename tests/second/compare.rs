@@ -1,10 +1,10 @@
 //! C4: the proved library against the second implementation, on random sheets: the verdict, the sizes,
 //! the end sets, the process check, the restated bytes, the figure, stuck and the printed text; and
 //! on random pairs: same work, which sheet is leaner, and the part that is handed back; and on random
-//! products: the sheet that each becomes. Every entry of what was lent is compared too: a refused call
-//! must leave all of it as it came.
+//! products: the sheet that each becomes; and on random columns: the restated sheet that has them. Every
+//! entry of what was lent is compared too: a refused call must leave all of it as it came.
 //!
-//! Usage: compare [SHEETS] [SEED]
+//! Usage: compare [SHEETS] [SEED] [ENOUGH], where it stops after ENOUGH that differ
 //!
 //! Each buffer is a middle part of a larger vector of random content. What the vector must hold
 //! after the call is put together before it, so that one comparison sees a byte written too much,
@@ -13,14 +13,19 @@
 // Slices are passed to the library as they are to C: a pointer and a length.
 #![allow(improper_ctypes_definitions)]
 
+mod compare_columns;
 mod compare_rows;
 mod firing;
 #[allow(dead_code)]
 mod plain;
 #[allow(dead_code)]
-mod random_products;
+mod plain_columns;
 #[allow(dead_code)]
 mod plain_rows;
+#[allow(dead_code)]
+mod random_columns;
+#[allow(dead_code)]
+mod random_products;
 #[allow(dead_code)]
 mod sheets;
 mod tally;
@@ -53,6 +58,8 @@ extern "C" {
     fn oatmist_leaner<'a>(first: &'a [u8], second: &'a [u8], part: &mut &'a [u8]);
     /// The bytes written.
     fn oatmist_rows(product: &[u8], out: &mut [u8], answer: &mut [u64]) -> u64;
+    /// The bytes written.
+    fn oatmist_columns(sheet: &[u8], columns: &[u8], out: &mut [u8], answer: &mut [u64]) -> u64;
 }
 
 /// A refusal as a call returns it: its number in bits 0 to 7, the sheet in bits 8 to 15, the step
@@ -64,16 +71,20 @@ fn told(number: u64, index: usize, sheet: usize) -> u64 {
 /// What a call must return, and the values of its answer, none where it is refused.
 type Due = (u64, Vec<u64>);
 
-/// Differing sheets, pairs or products after which the comparison stops.
-const ENOUGH: u64 = 10;
+/// Sheets, pairs, products or columns that differed, and after how many of them the comparison stops.
+struct Differing {
+    seen: u64,
+    enough: u64,
+}
 
-/// Sheets, pairs or products that a class must have at least, in a run of the usual length.
+/// Sheets, pairs, products or columns that a class must have at least, in a run of the usual length.
 const LEAST: u64 = 50;
 const USUAL: u64 = 30_000;
 
-/// One pair for so many sheets, and one product.
+/// One pair for so many sheets, one product, and one sheet with columns.
 const PAIR_SHARE: usize = 6;
 const PRODUCT_SHARE: usize = 2;
+const COLUMN_SHARE: usize = 3;
 
 fn main() {
     let count = argument(1, USUAL);
@@ -82,9 +93,12 @@ fn main() {
     let mut dice = Dice::new(seed);
     let mut tally = Tally::new();
     let mut classes = Classes::new();
-    let mut differing = 0;
-    // Products have dice of their own.
-    let mut own = Dice::new(seed + 1);
+    let mut differing = Differing {
+        seen: 0,
+        enough: argument(3, 10),
+    };
+    // Products and columns have dice of their own.
+    let (mut own, mut others) = (Dice::new(seed + 1), Dice::new(seed + 2));
     for number in 0..count as usize {
         let mut enough = compare_next(&mut tally, &mut dice, &mut classes, &mut differing, number);
         if number % PRODUCT_SHARE == 0 {
@@ -92,11 +106,17 @@ fn main() {
             let differences = compare_rows::compare(&mut tally, &mut own, &mut classes, &case.bytes);
             enough |= show(&mut differing, case.kind, &[&case.bytes], &differences);
         }
+        if number % COLUMN_SHARE == 0 {
+            let case = sheets::case_of(random_columns::KINDS, &mut others, number / COLUMN_SHARE);
+            let (sheet, columns) = &case.bytes;
+            let differences = compare_columns::compare(&mut tally, &mut others, &mut classes, sheet, columns);
+            enough |= show(&mut differing, case.kind, &[sheet, columns], &differences);
+        }
         if enough {
             tally.finish()
         }
     }
-    tally.part("sheets, pairs and products");
+    tally.part("sheets, pairs, products and columns");
     // Shorter runs are judged by the share that they have of the usual length.
     let least = LEAST * count.min(USUAL) / USUAL;
     classes.print(&mut tally, least);
@@ -108,7 +128,7 @@ fn compare_next(
     tally: &mut Tally,
     dice: &mut Dice,
     classes: &mut Classes,
-    differing: &mut u64,
+    differing: &mut Differing,
     number: usize,
 ) -> bool {
     let case = sheets::case(dice, number);
@@ -125,13 +145,13 @@ fn compare_next(
     enough
 }
 
-/// Prints the first sheet, pair or product that differs; whether there were enough of them.
-fn show(differing: &mut u64, kind: &str, given: &[&[u8]], differences: &[String]) -> bool {
+/// Prints the first sheet, pair or product that differs, or sheet with columns; whether there were enough of them.
+fn show(differing: &mut Differing, kind: &str, given: &[&[u8]], differences: &[String]) -> bool {
     if differences.is_empty() {
         return false;
     }
-    *differing += 1;
-    if *differing == 1 {
+    differing.seen += 1;
+    if differing.seen == 1 {
         println!("first differing sheet ({kind}):");
         for bytes in given {
             println!("{}", hex(bytes));
@@ -140,10 +160,11 @@ fn show(differing: &mut u64, kind: &str, given: &[&[u8]], differences: &[String]
             println!("  {difference}");
         }
     }
-    if *differing == ENOUGH {
-        println!("{ENOUGH} sheets, pairs or products differ; stopped");
+    let stopped = differing.seen >= differing.enough;
+    if stopped {
+        println!("{} sheets, pairs, products or columns differ; stopped", differing.seen);
     }
-    *differing >= ENOUGH
+    stopped
 }
 
 // ---------------------------------------------------------------------------------------------
@@ -293,18 +314,16 @@ fn compare_values(
     });
 }
 
-type Writer = unsafe extern "C" fn(&[u8], &mut [u8], &mut [u64]) -> u64;
-
 /// A call that also writes to an output of a length. Where it answers, these bytes stand at the
 /// front of the output, and their number is its value.
 fn compare_written(
     tally: &mut Tally,
     dice: &mut Dice,
     differences: &mut Vec<String>,
-    (name, call): (&str, Writer),
-    sheet: &[u8],
+    name: &str,
     length: usize,
     written: Result<&[u8], u64>,
+    call: impl FnOnce(&mut [u8], &mut [u64]) -> u64,
 ) {
     let name = format!("{name} into {length}");
     let mut out = Lent::new(dice, length, any_byte);
@@ -314,8 +333,8 @@ fn compare_written(
         Err(number) => (number, vec![]),
     };
     let answer = lent_answer(dice, 1);
-    compare_values(tally, differences, &name, &due, answer, |answer| unsafe {
-        call(sheet, out.part(), answer)
+    compare_values(tally, differences, &name, &due, answer, |answer| {
+        call(out.part(), answer)
     });
     note(tally, differences, out.whole == expected, || {
         let at = (0..expected.len()).find(|&i| out.whole[i] != expected[i]).unwrap_or(0);
@@ -347,7 +366,9 @@ fn compare_restated(
     let exact = restated.as_ref().ok().map(|out| out.len());
     for length in buffer_lengths(dice, sheet.len(), exact) {
         let written = fitted(&restated, length);
-        compare_written(tally, dice, differences, ("restate", oatmist_restate), sheet, length, written);
+        compare_written(tally, dice, differences, "restate", length, written, |out, answer| unsafe {
+            oatmist_restate(sheet, out, answer)
+        });
     }
 }
 
@@ -362,7 +383,9 @@ fn compare_report(
     let exact = text.as_ref().ok().map(|text| text.len());
     for length in buffer_lengths(dice, sheet.len(), exact) {
         let written = fitted(&text, length);
-        compare_written(tally, dice, differences, ("report", oatmist_report), sheet, length, written);
+        compare_written(tally, dice, differences, "report", length, written, |out, answer| unsafe {
+            oatmist_report(sheet, out, answer)
+        });
     }
 }
 
@@ -438,11 +461,12 @@ fn compare_pair(tally: &mut Tally, dice: &mut Dice, first: &[u8], second: &[u8])
     });
 
     if let Ok(related) = same {
-        let (one, two) = (written_by(oatmist_restate, first), written_by(oatmist_restate, second));
+        let (one, two) = (restated_by(first), restated_by(second));
         let right = one.is_ok() && two.is_ok() && (one == two) == related;
         note(tally, &mut differences, right, || {
             format!("related: {related}, restated otherwise")
         });
+        compare_columns::compare_pair(tally, &mut differences, first, second, related);
     }
     note(tally, &mut differences, (one.whole, two.whole) == before, || {
         "a sheet itself changed".into()
@@ -451,10 +475,10 @@ fn compare_pair(tally: &mut Tally, dice: &mut Dice, first: &[u8], second: &[u8])
 }
 
 /// The bytes that a call of the library writes, or what it returned.
-fn written_by(call: Writer, given: &[u8]) -> Result<Vec<u8>, u64> {
+fn written_by(call: impl FnOnce(&mut [u8], &mut [u64]) -> u64) -> Result<Vec<u8>, u64> {
     let mut out = vec![0xee; 16_650];
     let mut answer = [0];
-    match unsafe { call(given, &mut out, &mut answer) } {
+    match call(&mut out, &mut answer) {
         0 => {
             out.truncate(answer[0] as usize);
             Ok(out)
@@ -463,10 +487,15 @@ fn written_by(call: Writer, given: &[u8]) -> Result<Vec<u8>, u64> {
     }
 }
 
+/// The sheet as the library restates it.
+fn restated_by(sheet: &[u8]) -> Result<Vec<u8>, u64> {
+    written_by(|out, answer| unsafe { oatmist_restate(sheet, out, answer) })
+}
+
 // ---------------------------------------------------------------------------------------------
 // What was seen: R1 to R14, L1 to L7 at both sides
 
-/// How many sheets, pairs and products of each class there were, in the order in which they are printed.
+/// How many sheets, pairs, products and columns of each class there were, in the order in which they are printed.
 struct Classes(Vec<(String, u64)>);
 
 /// Ranges of a size, from and to. Each printed limit is a range of its own.
@@ -564,6 +593,31 @@ const BORDERS: &[(u64, &str, fn(&[u8]) -> bool)] = &[
     }),
 ];
 
+/// A product, or columns, by the refusal that they get, 0 for none.
+fn verdict_name(what: &str, number: u64) -> String {
+    match number {
+        0 => format!("{what}, accepted"),
+        _ => format!("{what}, refused by {number}"),
+    }
+}
+
+/// A class of them.
+fn class_name(what: &str, number: u64, name: &str) -> String {
+    format!("{}, {name}", verdict_name(what, number))
+}
+
+/// What is lent for the output of a call on a product, or on columns.
+const OUTPUTS: [&str; 4] = [
+    "output too short, refused by 13",
+    "output of the exact length",
+    "longer output",
+    "output of a refused one",
+];
+
+fn output_names(what: &str) -> Vec<String> {
+    OUTPUTS.iter().map(|name| format!("{what}, {name}")).collect()
+}
+
 /// S as the trailer has it.
 fn s_of(sheet: &[u8]) -> usize {
     sheet[sheet.len() - 6] as usize + 256 * sheet[sheet.len() - 5] as usize
@@ -591,6 +645,7 @@ impl Classes {
         names.extend(STUCK.map(String::from));
         names.extend(PAIRS.iter().map(|name| name.to_string()));
         names.extend(compare_rows::class_names());
+        names.extend(compare_columns::class_names());
         Classes(names.into_iter().map(|name| (name, 0)).collect())
     }
 
@@ -688,6 +743,17 @@ impl Classes {
                 self.add(&border_name(by, name));
             }
         }
+    }
+
+    /// What was lent for the output of a call on a product, or on columns.
+    fn count_output(&mut self, what: &str, written: &Result<&[u8], u64>, length: usize) {
+        let which = match written {
+            Err(13) => 0,
+            Ok(bytes) if bytes.len() == length => 1,
+            Ok(_) => 2,
+            Err(_) => 3,
+        };
+        self.add(&format!("{what}, {}", OUTPUTS[which]));
     }
 
     fn print(&self, tally: &mut Tally, least: u64) {

@@ -9,7 +9,7 @@ use crate::tally::Tally;
 use crate::{
     buffer_lengths, compare_values, compare_written, fitted, lent_answer, lent_sheet, note, told, written_by,
 };
-use crate::{oatmist_end_sets, oatmist_rows, Classes, Writer};
+use crate::{class_name, oatmist_end_sets, oatmist_rows, output_names, verdict_name, Classes};
 
 /// B6, R13, R15 to R17, O8: the call on one product, with outputs of several lengths; the texts of what differs.
 pub fn compare(tally: &mut Tally, dice: &mut Dice, classes: &mut Classes, bytes: &[u8]) -> Vec<String> {
@@ -21,21 +21,16 @@ pub fn compare(tally: &mut Tally, dice: &mut Dice, classes: &mut Classes, bytes:
     let asked = plain_rows::rows(bytes).map_err(|(number, index)| told(number, index, 0));
     for length in buffer_lengths(dice, bytes.len(), asked.as_ref().ok().map(Vec::len)) {
         let written = fitted(&asked, length);
-        count_output(classes, &written, length);
-        compare_written(
-            tally,
-            dice,
-            &mut differences,
-            ("rows", oatmist_rows),
-            lent.read(),
-            length,
-            written,
-        );
+        classes.count_output("product", &written, length);
+        compare_written(tally, dice, &mut differences, "rows", length, written, |out, answer| unsafe {
+            oatmist_rows(lent.read(), out, answer)
+        });
     }
     note(tally, &mut differences, lent.whole == before, || {
         "the product itself changed".into()
     });
-    if let (Ok(product), Ok(sheet)) = (&read, written_by(oatmist_rows, bytes)) {
+    let sheet = written_by(|out, answer| unsafe { oatmist_rows(bytes, out, answer) });
+    if let (Ok(product), Ok(sheet)) = (&read, sheet) {
         compare_promises(tally, dice, &mut differences, product, &sheet);
         compare_fronts(tally, dice, &mut differences, lent.read());
     }
@@ -45,16 +40,10 @@ pub fn compare(tally: &mut Tally, dice: &mut Dice, classes: &mut Classes, bytes:
 /// R15: the front of a right product, in whose place in memory the rest follows: nothing behind the end is read.
 fn compare_fronts(tally: &mut Tally, dice: &mut Dice, differences: &mut Vec<String>, product: &[u8]) {
     for length in [product.len() - 1, dice.below(product.len())] {
-        let given = ("rows of a front", oatmist_rows as Writer);
-        compare_written(
-            tally,
-            dice,
-            differences,
-            given,
-            &product[..length],
-            4_362,
-            Err(told(15, 0, 0)),
-        );
+        let (front, due) = (&product[..length], Err(told(15, 0, 0)));
+        compare_written(tally, dice, differences, "rows of a front", 4_362, due, |out, answer| unsafe {
+            oatmist_rows(front, out, answer)
+        });
     }
 }
 
@@ -87,22 +76,6 @@ fn compare_promises(
 
 // ---------------------------------------------------------------------------------------------
 // What was seen: R13, R15 to R17, and each printed limit at both sides
-
-const OUTPUTS: [&str; 4] = [
-    "product, output too short, refused by 13",
-    "product, output of the exact length",
-    "product, longer output",
-    "product, output of a refused one",
-];
-
-fn count_output(classes: &mut Classes, written: &Result<&[u8], u64>, length: usize) {
-    classes.add(match written {
-        Err(13) => OUTPUTS[0],
-        Ok(sheet) if sheet.len() == length => OUTPUTS[1],
-        Ok(_) => OUTPUTS[2],
-        Err(_) => OUTPUTS[3],
-    });
-}
 
 /// A class of products: the refusal, 0 for none, a name, and whether a product whose length fits is of this class.
 type Class = (u64, &'static str, fn(&Product) -> bool);
@@ -201,34 +174,23 @@ const LENGTHS: [&str; 3] = [
     "product, refused by 15, another length that does not fit",
 ];
 
-fn verdict_name(number: u64) -> String {
-    match number {
-        0 => "product, accepted".into(),
-        _ => format!("product, refused by {number}"),
-    }
-}
-
-fn class_name(number: u64, name: &str) -> String {
-    format!("{}, {name}", verdict_name(number))
-}
-
 pub fn class_names() -> Vec<String> {
-    let mut names: Vec<String> = [0, 15, 16, 17].map(verdict_name).to_vec();
-    names.extend(CLASSES.iter().map(|class| class_name(class.0, class.1)));
+    let mut names: Vec<String> = [0, 15, 16, 17].map(|number| verdict_name("product", number)).to_vec();
+    names.extend(CLASSES.iter().map(|class| class_name("product", class.0, class.1)));
     names.extend(LENGTHS.map(String::from));
-    names.extend(OUTPUTS.map(String::from));
+    names.extend(output_names("product"));
     names
 }
 
 /// What a product is, by the second implementation.
 fn count(classes: &mut Classes, bytes: &[u8], read: &Result<Product, plain::Refusal>) {
     let number = read.as_ref().err().map_or(0, |refusal| refusal.0);
-    classes.add(&verdict_name(number));
+    classes.add(&verdict_name("product", number));
     match plain_rows::cut(bytes) {
         Some(product) => {
             for (_, name, holds) in CLASSES.iter().filter(|class| class.0 == number) {
                 if holds(&product) {
-                    classes.add(&class_name(number, name));
+                    classes.add(&class_name("product", number, name));
                 }
             }
         }

@@ -71,8 +71,8 @@ fn lent_output(tally: &mut Tally) {
     }
 }
 
-/// R15, R16, R17, O8: whether the answer is the one that was meant.
-fn as_meant(meant: Meant, told: Option<plain::Refusal>) -> bool {
+/// O4: whether the answer is the one that was meant.
+pub fn as_meant(meant: Meant, told: Option<plain::Refusal>) -> bool {
     match meant {
         Meant::Accepted => told.is_none(),
         Meant::Refused(number, index) => told == Some((number, index)),

@@ -4,7 +4,10 @@
 #[allow(dead_code)]
 mod plain;
 #[allow(dead_code)]
+mod plain_columns;
+#[allow(dead_code)]
 mod plain_rows;
+mod stub_columns;
 mod stub_rows;
 
 fn bug(name: &str) -> bool {

@@ -16,7 +16,7 @@ is-given (Answer.Accepted z) x e = let z : _≡_ {A = ℕ} 0 1 = cc in absurd (o
 is-given (Answer.Given y) x e = let q : y ≡ x = cc in ap Answer.Given q
 is-given (Answer.Refused k i s) x e = let z : _≡_ {A = ℕ} 0 1 = cc in absurd (omega arith)
 
-is-refused : (r : Answer) (k i s : ℕ) → outcomeOf r ≡ refused k i s → r ≡ Answer.Refused k i s
+pub is-refused : (r : Answer) (k i s : ℕ) → outcomeOf r ≡ refused k i s → r ≡ Answer.Refused k i s
 is-refused (Answer.Accepted z) k i s e = let z : _≡_ {A = ℕ} 0 1 = cc in absurd (omega arith)
 is-refused (Answer.Given y) k i s e = let z : _≡_ {A = ℕ} 0 1 = cc in absurd (omega arith)
 is-refused (Answer.Refused l j t) k i s e = cc

@@ -22,7 +22,7 @@ Refusal = ℕ → ℕ → ℕ → Type 0
 abbrev pub NoRefusal : Refusal
 NoRefusal k i s = ⊥
 
--- O4, O7: one of the numbers 13 and 14, which tell no step and no sheet
+-- O4, O7: this number, one that tells no step and no sheet, as 13 and 14 do
 abbrev pub Numbered : ℕ → Refusal
 Numbered number k i s = (k ≡ number) × (i ≡ 0) × (s ≡ 0)
 

@@ -1,9 +1,11 @@
 // A sheet restated in normal form: its restated steps packed, and the sheet with them written into lent bytes.
 ghost use mathlib.Core.Path.{_≡_};
+ghost use mathlib.Core.List.{List};
+ghost use Prim.Native.Nat.{ℕ};
 ghost use lib.ListN.{replicate};
 ghost use Rattle.sheet.specs.Bounds.{mostSteps};
-ghost use Rattle.desk.specs.AcceptedSheet.{AcceptedSheet};
-ghost use Rattle.desk.specs.Left.{ParticipantsLeft, PackedSteps};
+ghost use Rattle.desk.specs.AcceptedSheet.{AcceptedSheet, SheetGiven, SomeSheet};
+ghost use Rattle.desk.specs.Left.{PackedSteps};
 ghost use Rattle.desk.specs.Calls.{RestateAnswer};
 use crate::alphabets;
 use crate::verdict;
@@ -11,17 +13,7 @@ use answers::Answer;
 use answers::Sizes;
 use dependence::participants;
 
-// Packs the steps of an accepted sheet into `packed`, which comes with zeros, by the components of each action, and gives back how many
-// restated steps there are.
-fn pack_steps(sheet: &[u8], sizes: Sizes, participants: &[u64], packed: &mut [u64]) -> usize
-    requires { ⌜ AcceptedSheet (now sheet) sizes × ParticipantsLeft (now sheet) (now participants)
-        × (now packed ≡ replicate mostSteps 0) ⌝ }
-    ensures { λ r. ⌜ PackedSteps (now (sheet .entry)) (now (packed .exit)) r ⌝ }
-{
-    normal_form::pack(reading::step_section(sheet, sizes.s), participants, packed)
-}
-
-// The same where the components of each action are still to be found.
+// Packs the steps of an accepted sheet into `packed`, which comes with zeros, and gives back how many restated steps there are.
 pub fn pack_sheet(sheet: &[u8], sizes: Sizes, packed: &mut [u64]) -> usize
     requires { ⌜ AcceptedSheet (now sheet) sizes × (now packed ≡ replicate mostSteps 0) ⌝ }
     ensures { λ r. ⌜ PackedSteps (now (sheet .entry)) (now (packed .exit)) r ⌝ }
@@ -30,17 +22,25 @@ pub fn pack_sheet(sheet: &[u8], sizes: Sizes, packed: &mut [u64]) -> usize
     alphabets::alphabets_of(sheet, sizes, &mut alphabets);
     let mut participants = [0u64; 64];
     participants::participants_of(&alphabets, sizes.n, &mut participants);
-    pack_steps(sheet, sizes, &participants, packed)
+    normal_form::pack(reading::step_section(sheet, sizes.s), &participants, packed)
 }
 
-// Restates an accepted sheet, whose sizes and whose components of each action are known: 13 where the restated bytes do not fit.
-fn write_restated(sheet: &[u8], sizes: Sizes, participants: &[u64], out: &mut [u8]) -> Answer
-    requires { ⌜ AcceptedSheet (now sheet) sizes × ParticipantsLeft (now sheet) (now participants) ⌝ }
-    ensures { λ r. ⌜ RestateAnswer (now (sheet .entry)) (now (out .entry)) r (now (out .exit)) ⌝ }
+// Restates the accepted sheet that has these bytes before its steps, the steps of this section and these sizes, by the components of each
+// action: 13 where the restated bytes do not fit.
+pub fn write_restated(
+    front: &[u8],
+    section: &[u8],
+    sizes: Sizes,
+    participants: &[u64],
+    out: &mut [u8],
+) -> Answer
+    requires { ⌜ SomeSheet (now front) (now section) sizes (now participants) ⌝ }
+    ensures { λ r. ⌜ ((b : List ℕ) → SheetGiven b (now (front .entry)) (now (section .entry)) sizes (now (participants .entry))
+        → RestateAnswer b (now (out .entry)) r (now (out .exit))) ⌝ }
 {
-    let s = sizes.s;
+    let s = front.len();
     let mut packed = [0u64; 1024];
-    let count = pack_steps(sheet, sizes, participants, &mut packed);
+    let count = normal_form::pack(section, participants, &mut packed);
     let size = s + 8 * count + 10;
     if out.len() < size {
         return Answer::Refused {
@@ -49,14 +49,7 @@ fn write_restated(sheet: &[u8], sizes: Sizes, participants: &[u64], out: &mut [u
             sheet: 0,
         };
     }
-    writing::write_sheet(
-        &sheet[..s],
-        &packed,
-        count,
-        sizes.n as u8,
-        sizes.m as u8,
-        out,
-    );
+    writing::write_sheet(front, &packed, count, sizes.n as u8, sizes.m as u8, out);
     Answer::Given(size as u64)
 }
 
@@ -75,5 +68,12 @@ pub fn restate(sheet: &[u8], out: &mut [u8]) -> Answer
     let Answer::Accepted(known) = judged else {
         return judged;
     };
-    write_restated(sheet, known, &participants, out)
+    let s = known.s;
+    write_restated(
+        &sheet[..s],
+        reading::step_section(sheet, s),
+        known,
+        &participants,
+        out,
+    )
 }

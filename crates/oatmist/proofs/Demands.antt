@@ -22,6 +22,7 @@ use Rattle.answers.specs.Leaner.{winner}
 use Rattle.answers.specs.FirstRefusal.{Refusal, SheetRefusal, RestateRefusal, ReportRefusal, TwoSheetRefusal, RefusesBy}
 use Rattle.answers.proofs.RefusalsDue.{sheet-refuses}
 use Rattle.answers.proofs.FirstRefusal.{ends-refuse, process-refuses, figure-refuses, stuck-refuses, restate-refuses, report-refuses, work-refuses, winner-refuses, values-same}
+use Rattle.answers.proofs.Told.{is-refused}
 use Rattle.answers.proofs.Laws.{output-laws}
 use Rattle.answers.proofs.OutcomeLaws.{output-kept}
 use Rattle.report.specs.Calls.{ReportAnswer}
@@ -31,10 +32,12 @@ use Rattle.comparing.specs.Calls.{SameWorkAnswer, WinnerAnswer}
 use Rattle.products.specs.ProductVerdict.{rowsOutcome}
 use Rattle.rows.specs.Calls.{RowsAnswer, RowsRefusal}
 use Rattle.rows.proofs.Demands.{rows-refuses, refused-left as rows-refused-left}
+use Rattle.columns.specs.Calls.{ColumnsAnswer, ColumnsRefusal}
+use Rattle.columns.proofs.Demands.{columns-demand}
 use Rattle.oatmist.specs.Convention.{withValues, FitsWord, CAnswer}
-use Rattle.oatmist.specs.Calls.{EndSetsForC}
+use Rattle.oatmist.specs.Calls.{EndSetsForC, ColumnsForC}
 use Rattle.oatmist.specs.Demands.{ReadsAs, InFront, ToldToC, Number, DemandsForC}
-use Rattle.oatmist.proofs.FitsWord.{fits-read, fits-process, fits-restate, fits-figure, fits-stuck, fits-report, fits-rows, fits-work, fits-winner}
+use Rattle.oatmist.proofs.FitsWord.{fits-read, fits-process, fits-restate, fits-figure, fits-stuck, fits-report, fits-rows, fits-columns, fits-work, fits-winner}
 
 -- ---- the values in front
 
@@ -164,6 +167,33 @@ ends-to-c b old new r c =
         let e = ended b (h .0) in
         (e .0, e .1, h .1 ∙ e .2)
 
+module _ (b d out left old new : List ℕ) (r : ℕ) where
+  -- R18, R19, O9: what is told of columns
+  columns-to-c : ColumnsForC b d out r left old new → ToldToC (ColumnsRefusal b d (length out)) (Number (λ a. ColumnsAnswer b d out a left)) r old new
+  columns-to-c c =
+      list-to-c (ColumnsRefusal b d (length out)) (Number (λ a. ColumnsAnswer b d out a left)) (outcomeOf (c .told)) due
+      (fits-columns b d out (c .told) left (c .call)) (number (c .told) (c .call)) r old new (c .answer-told)
+    where
+      due : RefusesBy (ColumnsRefusal b d (length out)) (outcomeOf (c .told))
+      due k i s =
+          let told = columns-demand .columns-answers b d out left (c .told) (c .call) .refused-exactly k i s in
+          (λ e. told .0 (is-refused (c .told) k i s e), λ p. ap outcomeOf (told .1 p))
+
+      number : (a : Answer) → ColumnsAnswer b d out a left → (xs : List ℕ) → outcomeOf a ≡ given xs
+          → Number (λ x. ColumnsAnswer b d out x left) xs
+      number (Answer.Accepted z) h xs e = absurd (columns-demand .columns-answers b d out left (Answer.Accepted z) h .no-sizes z refl)
+      number (Answer.Given x) h xs e = (x, h, cc)
+      number (Answer.Refused k i s) h xs e = let z : _≡_ {A = ℕ} 0 1 = cc in absurd (omega arith)
+
+  -- O5: a refused call leaves the output as it came
+  columns-kept : ColumnsForC b d out r left old new → ¬ (r ≡ 0) → left ≡ out
+  columns-kept c = go (c .told) (c .call) (c .answer-told)
+    where
+      go : (a : Answer) → ColumnsAnswer b d out a left → CAnswer (outcomeOf a) r old new → ¬ (r ≡ 0) → left ≡ out
+      go (Answer.Accepted z) h t n = absurd (n (t .0))
+      go (Answer.Given x) h t n = absurd (n (t .0))
+      go (Answer.Refused k i s) h t n = columns-demand .refused-untouched b d out left k i s h
+
 -- D1, O4, O5: C is told what each call from Rattle answers; so D2 and D3 hold of what it is told
 pub demands-for-c : DemandsForC
 demands-for-c =
@@ -194,6 +224,7 @@ demands-for-c =
           number-to-c (λ x. x) (RowsRefusal b (length out)) (rowsOutcome b (length out)) (rows-refuses b (length out))
           (fits-rows b (length out)) (λ a. RowsAnswer b out a left) (λ a e. record { answer-told = e; output-left = c .output-left })
           r old new (c .answer-told);
+      columns = columns-to-c;
       restate-untouched = λ b out left old new r c n.
           where-refused oneValue (restating b (length out)) r old new (c .answer-told) n (left ≡ out)
           (λ k i s e. c .output-left ∙ output-laws .refused-untouched b out k i s e);
@@ -203,6 +234,7 @@ demands-for-c =
       rows-untouched = λ b out left old new r c n.
           where-refused oneValue (rowsOutcome b (length out)) r old new (c .answer-told) n (left ≡ out)
           (λ k i s e. c .output-left ∙ rows-refused-left b out k i s e);
+      columns-untouched = columns-kept;
       leaner = λ b c part h. h;
       worked = (λ z. absurd (omega arith), refl, refl, refl);
     }

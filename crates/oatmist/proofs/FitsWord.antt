@@ -1,4 +1,4 @@
--- O4, O7: every refusal of a call fits into one number: it is at most 17, its sheet 0 or 1, its step index below the number of steps.
+-- O4, O7: every refusal of a call fits into one number: it is at most 19, its sheet 0 or 1, its step index below the number of steps.
 -- Assumes nothing.
 use mathlib.Core.Path.{_≡_, refl, sym, subst}
 use mathlib.Core.Bool.{Bool, true, false, cond}
@@ -32,6 +32,7 @@ use Rattle.answers.specs.TwoSheets.{tablesDiffer, unlessDiffer, ofTwo}
 use Rattle.products.specs.ProductBytes.{productOf}
 use Rattle.products.specs.ProductSheet.{productSheet}
 use Rattle.products.specs.ProductVerdict.{malformed, badRow, idleComponent, refusedBy, rowsOutcome}
+use Rattle.columns.specs.Calls.{ColumnsAnswer}
 use Rattle.oatmist.specs.Convention.{FitsWord, CAnswer}
 
 length-first : (b : List ℕ) → ((k : ℕ) → refusal b k ≡ false) → lengthWrong b ≡ false
@@ -132,6 +133,20 @@ fits-rows b size =
     (fits-by (badRow (productOf b)) 16 (omega arith) (omega arith) _
     (fits-by (idleComponent (productOf b)) 17 (omega arith) (omega arith) _
     (fits-text oneValue (productSheet (productOf b)) size)))
+
+-- an answer that refuses by a small number, at a step of a sheet (O4)
+fits-refused : (r : Answer) (k i : ℕ) → 1 ≤ k → k < 256 → i ≤ longest → r ≡ Answer.Refused k i 0 → FitsWord (outcomeOf r)
+fits-refused r k i low small below e =
+    subst (λ (a : Answer). FitsWord (outcomeOf a)) (sym e) (low, small, omega arith, omega arith)
+
+-- 18 and 19 are told with the step index 0 and the sheet 0 (O4, O9)
+pub fits-columns : (b d out : List ℕ) (r : Answer) (left : List ℕ) → ColumnsAnswer b d out r left → FitsWord (outcomeOf r)
+fits-columns b d out r left (ColumnsAnswer.sheet-refused k i v e kept) =
+    let h = verdict-small b k i v in fits-refused r k i (h .0) (omega arith) (h .2) e
+fits-columns b d out r left (ColumnsAnswer.not-legible acc h e kept) = fits-refused r 18 0 (omega arith) (omega arith) (omega arith) e
+fits-columns b d out r left (ColumnsAnswer.not-executable acc cs x h e kept) = fits-refused r 19 0 (omega arith) (omega arith) (omega arith) e
+fits-columns b d out r left (ColumnsAnswer.as-restated acc cs x c h e kept) =
+    subst FitsWord (sym e) (fits-restate c (length out))
 
 pub fits-work : (b c : List ℕ) → FitsWord (values (λ t. oneValue (bit t)) (sameWork b c))
 unfolding sameWork

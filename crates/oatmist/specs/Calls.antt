@@ -7,7 +7,8 @@ use Prim.Native.Nat.{ℕ}
 use lib.ListN.{length}
 use Rattle.traces.specs.Offences.{offending}
 use Rattle.sheet.specs.Verdict.{verdict}
-use Rattle.answers.specs.Outcomes.{values, oneValue, bit, readOutcome}
+use Rattle.answers.specs.declared.Answer.{Answer}
+use Rattle.answers.specs.Outcomes.{values, oneValue, bit, outcomeOf, readOutcome}
 use Rattle.answers.specs.Ends.{endsOutcome}
 use Rattle.answers.specs.ProcessCheck.{processCheck}
 use Rattle.answers.specs.Restating.{restating, outputAfter}
@@ -17,6 +18,7 @@ use Rattle.answers.specs.Figure.{figureOutcome}
 use Rattle.answers.specs.Stuck.{stuckOutcome}
 use Rattle.answers.specs.Report.{reporting, reportOutput}
 use Rattle.products.specs.ProductVerdict.{rowsOutcome, rowsOutput}
+use Rattle.columns.specs.Calls.{ColumnsAnswer}
 use Rattle.oatmist.specs.Convention.{CAnswer}
 
 -- O1, S6: the check
@@ -53,6 +55,12 @@ pub record ReportForC (b out : List ℕ) (r : ℕ) (left old new : List ℕ) : T
 pub record RowsForC (b out : List ℕ) (r : ℕ) (left old new : List ℕ) : Type 0 where
   pub answer-told : CAnswer (values oneValue (rowsOutcome b (length out))) r old new
   pub output-left : left ≡ rowsOutput b out
+
+-- V3, O9, R13: an execution given by columns: what the call from Rattle answers and leaves, told
+pub record ColumnsForC (b d out : List ℕ) (r : ℕ) (left old new : List ℕ) : Type 0 where
+  pub told : Answer
+  pub call : ColumnsAnswer b d out told left
+  pub answer-told : CAnswer (outcomeOf told) r old new
 
 -- A1, R14: same work
 abbrev pub SameWorkForC : List ℕ → List ℕ → ℕ → List ℕ → List ℕ → Type 0

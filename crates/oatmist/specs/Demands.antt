@@ -14,7 +14,8 @@ use Rattle.desk.specs.Calls.{EndSetsAnswer, ProcessAnswer, RestateAnswer, Figur
 use Rattle.comparing.specs.Calls.{SameWorkAnswer, WinnerAnswer, LeanerPart}
 use Rattle.report.specs.Calls.{ReportAnswer}
 use Rattle.rows.specs.Calls.{RowsAnswer, RowsRefusal}
-use Rattle.oatmist.specs.Calls.{CheckForC, EndSetsForC, ProcessForC, FigureForC, StuckForC, RestateForC, ReportForC, SameWorkForC, WinnerForC, LeanerForC, RowsForC}
+use Rattle.columns.specs.Calls.{ColumnsAnswer, ColumnsRefusal}
+use Rattle.oatmist.specs.Calls.{CheckForC, EndSetsForC, ProcessForC, FigureForC, StuckForC, RestateForC, ReportForC, SameWorkForC, WinnerForC, LeanerForC, RowsForC, ColumnsForC}
 
 -- what is returned is not 0, and OATMIST_REFUSAL, OATMIST_STEP and OATMIST_SHEET read this refusal from it
 abbrev pub ReadsAs : ℕ → Refusal
@@ -50,16 +51,19 @@ pub record DemandsForC : Type 0 where
   pub stuck : (b old new : List ℕ) (r : ℕ) → StuckForC b r old new → ToldToC (SheetRefusal b) (Number (StuckAnswer b)) r old new
   pub same-work : (b c old new : List ℕ) (r : ℕ) → SameWorkForC b c r old new → ToldToC (TwoSheetRefusal b c) (Number (SameWorkAnswer b c)) r old new
   pub winner : (b c old new : List ℕ) (r : ℕ) → WinnerForC b c r old new → ToldToC (TwoSheetRefusal b c) (Number (WinnerAnswer b c)) r old new
-  -- restating, the report and products given by rows: also what the output is afterwards
+  -- restating, the report, products given by rows and executions given by columns: also what the output is afterwards
   pub restate : (b out left old new : List ℕ) (r : ℕ) → RestateForC b out r left old new
       → ToldToC (RestateRefusal b (length out)) (Number (λ a. RestateAnswer b out a left)) r old new
   pub report : (b out left old new : List ℕ) (r : ℕ) → ReportForC b out r left old new
       → ToldToC (ReportRefusal b (length out)) (Number (λ a. ReportAnswer b out a left)) r old new
   pub rows : (b out left old new : List ℕ) (r : ℕ) → RowsForC b out r left old new
       → ToldToC (RowsRefusal b (length out)) (Number (λ a. RowsAnswer b out a left)) r old new
+  pub columns : (b d out left old new : List ℕ) (r : ℕ) → ColumnsForC b d out r left old new
+      → ToldToC (ColumnsRefusal b d (length out)) (Number (λ a. ColumnsAnswer b d out a left)) r old new
   pub restate-untouched : (b out left old new : List ℕ) (r : ℕ) → RestateForC b out r left old new → ¬ (r ≡ 0) → left ≡ out
   pub report-untouched : (b out left old new : List ℕ) (r : ℕ) → ReportForC b out r left old new → ¬ (r ≡ 0) → left ≡ out
   pub rows-untouched : (b out left old new : List ℕ) (r : ℕ) → RowsForC b out r left old new → ¬ (r ≡ 0) → left ≡ out
+  pub columns-untouched : (b d out left old new : List ℕ) (r : ℕ) → ColumnsForC b d out r left old new → ¬ (r ≡ 0) → left ≡ out
   -- the part of the leaner sheet
   pub leaner : (b c part : List ℕ) → LeanerForC b c part → LeanerPart b c part
   -- a worked number: refusal 12 of the second sheet at the step with index 1023

@@ -2,7 +2,7 @@
 // a length, and the values of an answer go to an array that the caller lends (include/oatmist.h).
 mod convention;
 
-ghost use Rattle.oatmist.specs.Calls.{CheckForC, EndSetsForC, ProcessForC, FigureForC, StuckForC, RestateForC, ReportForC, SameWorkForC, WinnerForC, LeanerForC, RowsForC};
+ghost use Rattle.oatmist.specs.Calls.{CheckForC, EndSetsForC, ProcessForC, FigureForC, StuckForC, RestateForC, ReportForC, SameWorkForC, WinnerForC, LeanerForC, RowsForC, ColumnsForC};
 pub use answers::Answer;
 pub use answers::EndSets;
 pub use answers::Sizes;
@@ -15,6 +15,7 @@ pub use desk::restate::restate;
 pub use desk::stuck::is_stuck;
 pub use desk::verdict::check;
 pub use desk::verdict::end_sets;
+pub use merging::columns;
 pub use report::report;
 pub use rows::rows;
 
@@ -111,4 +112,18 @@ pub extern "C" fn oatmist_rows(product: &[u8], out: &mut [u8], answer: &mut [u64
     ensures { λ r. ⌜ RowsForC (now (product .entry)) (now (out .entry)) r (now (out .exit)) (now (answer .entry)) (now (answer .exit)) ⌝ }
 {
     convention::hand(rows(product, out), answer)
+}
+
+// V3: an execution given by columns over the tables of a sheet: how many bytes of the restated sheet were written to `out`.
+#[no_mangle]
+pub extern "C" fn oatmist_columns(
+    sheet: &[u8],
+    columns: &[u8],
+    out: &mut [u8],
+    answer: &mut [u64],
+) -> u64
+    ensures { λ r. ⌜ ColumnsForC (now (sheet .entry)) (now (columns .entry)) (now (out .entry)) r (now (out .exit))
+        (now (answer .entry)) (now (answer .exit)) ⌝ }
+{
+    convention::hand(merging::columns(sheet, columns, out), answer)
 }

@@ -1,6 +1,6 @@
 -- Closed examples over one dependence test: the actions 0 to 3 in a row, each dependent on itself and its neighbours.
 -- Words and their normal forms (N8) in one table, by computing; swaps (Q9) and the process condition (N6, N7), each with a case that it
--- refuses.
+-- refuses; words cut down to some actions (V1).
 -- Assumes nothing.
 use mathlib.Core.Path.{_≡_, refl}
 use mathlib.Core.Bool.{Bool, true, false, _&&_, true≢false, false≢true}
@@ -11,6 +11,7 @@ use Rattle.traces.specs.Words.{Swap, here}
 use Rattle.traces.specs.Steps.{clash, Process}
 use Rattle.traces.specs.Offences.{firstOffence, offending}
 use Rattle.traces.specs.Foata.{foata}
+use Rattle.traces.specs.Projections.{projection}
 
 abbrev neighbours : ℕ → ℕ → Bool
 neighbours a b = leb a (suc b) && leb b (suc a)
@@ -81,6 +82,15 @@ offenceSteps =
 -- one past the index of the first step that does not follow the one just before, or 0
 pub offences : map (λ ss. offending (firstOffence neighbours ss)) offenceSteps ≡ 0 ∷ 0 ∷ 0 ∷ 2 ∷ 3 ∷ 2 ∷ 3 ∷ []
 offences = refl
+
+-- ---- a word cut down to the actions 0 and 1 (V1)
+
+abbrev cutWords : List (List ℕ)
+cutWords = [] ∷ (2 ∷ 3 ∷ []) ∷ (0 ∷ 2 ∷ 1 ∷ []) ∷ (1 ∷ 2 ∷ 0 ∷ 3 ∷ []) ∷ (1 ∷ 1 ∷ 2 ∷ 0 ∷ 2 ∷ 1 ∷ []) ∷ []
+
+-- in their order, and each as often as it stands there
+pub cuts : map (projection (λ a. leb a 1)) cutWords ≡ [] ∷ [] ∷ (0 ∷ 1 ∷ []) ∷ (1 ∷ 0 ∷ []) ∷ (1 ∷ 1 ∷ 0 ∷ 1 ∷ []) ∷ []
+cuts = refl
 
 -- ---- two dependent actions in one step (R11)
 

@@ -1,5 +1,6 @@
 pub mod Examples
 pub mod Swaps
+pub mod Projections
 pub mod Sharing
 pub mod Insert
 pub mod Reach

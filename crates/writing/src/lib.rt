@@ -28,7 +28,7 @@ fn put4(x: u64, out: &mut [u8])
 }
 
 // Writes the eight bytes of a set.
-fn put8(x: u64, out: &mut [u8])
+pub fn put8(x: u64, out: &mut [u8])
     requires { ⌜ 8 ≤ length (now out) ⌝ }
     ensures { λ _. ⌜ now (out .exit) ≡ over (bytes 8 x) (now (out .entry)) ⌝ }
 {

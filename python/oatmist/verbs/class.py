@@ -1,11 +1,12 @@
 """Marks every file in a folder, and puts those that do the same work into
 classes.
 
-A file is an execution as text or a whole sheet; folders in the folder count,
-too. Each file gets a line: accepted with its class and K, C, F and D, refused
-with the number and the step, or other system. A file that cannot be read or
-understood is listed apart and never marked, and so is a link out of the
-folder. Two sheets are in one class exactly when they are restated as the same
+A file is an execution as text, in steps or in columns, or a whole sheet;
+folders in the folder count, too. Each file gets a line: accepted with its class
+and K, C, F and D, refused with the number and the step, or other system. A file
+that cannot be read or understood is listed apart and never marked, and so is a
+link out of the folder. Of columns the restated sheet is marked, so that K is C.
+Two sheets are in one class exactly when they are restated as the same
 bytes; the SHA-256 of these is the name of the class, whole in CSV and JSON, its
 first digits in the table. Steps count from 1 in the table, from 0 in CSV and
 JSON. A receipt ends the output; with --csv or --json it goes to standard error.

@@ -5,8 +5,9 @@ file or in two:
   oatmist make SYSTEM EXECUTION -o SHEET
 
 The system may be a product that is given by its rows, which are its actions.
-Whether the execution can be carried out is not asked: that is for 'mark' to
-say.
+Whether the steps can be carried out is not asked: that is for 'mark' to say.
+Of columns the sheet is the restated one that has them; where there is none,
+nothing is written.
 """
 import sys
 

@@ -14,8 +14,9 @@ def arguments(parser):
 
 def lines(system, execution):
     """The answer."""
-    sets, count = places.ends(system, execution), len(execution.steps)
-    yield f"after {count:,} {'step' if count == 1 else 'steps'}\n" if count else "at the start\n"
+    sets = places.ends(system, execution)
+    done = "the columns" if execution.of_columns else words.plural(len(execution.steps), "step")
+    yield f"after {done}\n" if execution.steps else "at the start\n"
     yield from words.where(system, sets)
     names = [system.actions[action] for action in places.possible(system, sets)]
     yield words.wrapped(" ".join(names), "possible now: ", " " * 14) + "\n" if names else "no action is possible now\n"

@@ -1,7 +1,8 @@
 """Draws an execution as SVG, as it is given and, below, as it is restated: a
 lane for each component, a column for each step, a box for each action over the
 lanes of its components. Where these are not neighbours, the box is narrow on
-the lanes between them, and their lines pass through it.
+the lanes between them, and their lines pass through it. Columns have no steps:
+an execution that is written so is drawn as it is restated alone.
 
 Of an execution that the desk refuses by 9 to 12 the picture has the steps as
 given, with a dashed frame around the step that is wrong; the refusal is told on
@@ -60,12 +61,13 @@ def parts(system, execution, chosen):
         restated = read_execution(calls.restate(encode(system, execution)))
     except calls.Refusal as refusal:
         if refusal.number < calls.ACTIONS:
-            raise Fault(f"refused by {refusal.number}: {words.refused(system, execution, refusal)}", status=manners.REFUSED)
+            raise words.fault(system, execution, refusal)
         fault, faulty = f", refused by {refusal.number}", None
-        if refusal.number >= calls.STEP:
+        if refusal.number in calls.OF_STEPS:
             fault, faulty = f"{fault} at step {refusal.step + 1}", refusal.step
         return [part(system, "as given", execution, chosen, fault, faulty)], refusal
-    return [part(system, "as given", execution, chosen), part(system, "restated", restated, chosen)], None
+    given = [] if execution.of_columns else [part(system, "as given", execution, chosen)]
+    return [*given, part(system, "restated", restated, chosen)], None
 
 
 def run(given):

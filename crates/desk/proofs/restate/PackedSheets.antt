@@ -2,57 +2,92 @@
 -- Assumes nothing.
 use mathlib.Core.Path.{_≡_, sym, ap, ap₂, _∙_}
 use mathlib.Core.List.{List, map}
-use Prim.Native.Nat.{ℕ, _-_, _≤_}
+use Prim.Native.Nat.{ℕ, _-_, _<_, _≤_}
 use native.Mathlib.Omega.{arith}
 use lib.ListN.{length, take, replicate, length-map, length-append, length-replicate}
 use lib.Seq.{take-append-seam}
 use Rattle.sets.specs.Bits.{setOf}
 use Rattle.traces.specs.Foata.{foata}
+use Rattle.systems.specs.Tables.{Tables, InOrder, WordOver}
 use Rattle.systems.specs.Checking.{flat}
 use Rattle.systems.specs.Independence.{dependent}
-use Rattle.sheet.specs.Bounds.{mostSteps, mostComponents}
-use Rattle.sheet.specs.Layout.{tablesOf, tables, steps}
-use Rattle.dependence.specs.participants.Participants.{OfSixteen}
+use Rattle.sheet.specs.Bounds.{mostSteps, mostInSteps, mostComponents}
+use Rattle.sheet.specs.Layout.{front, tablesOf, tables}
+use Rattle.sheet.specs.Sections.{stepsIn}
+use Rattle.dependence.specs.participants.Participants.{OfSixteen, Participants}
 use Rattle.dependence.proofs.participants.Entering.{participants-sixteen}
+use Rattle.reading.specs.Reading.{upToTrailer}
 use Rattle.normal_form.specs.HoldsFoata.{HoldsFoata}
 use Rattle.answers.specs.declared.Sizes.{Sizes}
 use Rattle.answers.specs.Restated.{restatedSteps}
-use Rattle.answers.proofs.Restated.{restated-normal, accepted-limits}
-use Rattle.desk.specs.AcceptedSheet.{AcceptedSheet}
-use Rattle.desk.specs.Left.{ParticipantsLeft, PackedSteps}
+use Rattle.answers.proofs.Restated.{restated-normal, accepted-limits, accepted-order, front-short}
+use Rattle.desk.specs.AcceptedSheet.{AcceptedSheet, SheetGiven}
+use Rattle.desk.specs.Left.{PackedSteps}
+use Rattle.desk.proofs.Accepted.{steps-below, section-told}
 
-module _ (b : List ℕ) (z : Sizes) (k : AcceptedSheet b z) (o : List ℕ) (p : ParticipantsLeft b o) where
+-- N1: a sheet whole, as its parts: the bytes before its steps, and its step section
+pub whole-given : (b : List ℕ) (z : Sizes) → AcceptedSheet b z → (section : List ℕ) → section ≡ upToTrailer (z .s) b → (o : List ℕ)
+    → Participants (tables b) o → SheetGiven b (take (z .s) b) section z o
+unfolding front
+whole-given b z r section e o p =
+    record {
+      sheet = r;
+      front-told = ap (λ (s : ℕ). take s b) (r .sizes-read .s-read);
+      steps-told = section-told b z r section e;
+      participants-told = p;
+    }
+
+module _ (b before section : List ℕ) (z : Sizes) (o : List ℕ) (g : SheetGiven b before section z o) where
   few : tables b .components ≤ mostComponents
   unfolding tables tablesOf
-  few = accepted-limits b (k .sheet-accepted) .components-high
+  few = accepted-limits b (g .sheet .sheet-accepted) .components-high
 
-  -- what packing asks of the participants
-  pub sheet-sixteen : OfSixteen o
-  sheet-sixteen = participants-sixteen (tables b) o (p (k .sheet-accepted)) few
+  -- L1, N8: what packing asks of the participants
+  pub given-sixteen : OfSixteen o
+  given-sixteen = participants-sixteen (tables b) o (g .participants-told) few
 
-  module _ (xs : List ℕ) (same : xs ≡ steps b) (packed : List ℕ) (count : ℕ) (h : HoldsFoata (dependent (tables b)) (flat xs) packed count) where
-    -- the normal form of the actions read
-    abbrev placed : List (List ℕ)
-    placed = foata (dependent (tables b)) (flat xs)
+  -- L6: and of the section
+  pub given-few : length (flat (stepsIn section)) ≤ mostInSteps
+  given-few = rw (g .steps-told) (accepted-limits b (g .sheet .sheet-accepted) .actions-total)
 
-    placed-told : map setOf placed ≡ restatedSteps b
-    placed-told = ap (λ (ys : List ℕ). map setOf (foata (dependent (tables b)) (flat ys))) same ∙ sym (restated-normal b)
+  -- L7: what writing asks of the bytes before the steps
+  pub given-front : length before < 65536
+  given-front = rw (g .front-told) (front-short b (accepted-limits b (g .sheet .sheet-accepted)))
 
-    count-sets : count ≡ length (map setOf placed)
-    count-sets = h .counted ∙ sym (length-map placed setOf)
+  module _ (packed : List ℕ) (count : ℕ)
+      (h : (T : Tables) → InOrder T → Participants T o → WordOver T (flat (stepsIn section))
+      → HoldsFoata (dependent T) (flat (stepsIn section)) packed count)
+    where
+      -- the normal form of the actions read
+      abbrev placed : List (List ℕ)
+      placed = foata (dependent (tables b)) (flat (stepsIn section))
 
-    whole : length packed ≡ mostSteps
-    whole =
-        let f = h .few in
-        let e = count-sets in
-        let z = length-replicate {A = ℕ} (mostSteps - count) 0 in
-        ap length (h .packed-sets) ∙ length-append (map setOf placed) (replicate (mostSteps - count) 0) ∙ omega arith
+      holds : HoldsFoata (dependent (tables b)) (flat (stepsIn section)) packed count
+      holds =
+          let acc = g .sheet .sheet-accepted in
+          h (tables b) (accepted-order b acc) (g .participants-told) (rw (g .steps-told) (steps-below b acc))
 
-    pub packed-told : PackedSteps b packed count
-    packed-told =
-        record {
-          size = whole;
-          counted = count-sets ∙ ap length placed-told;
-          few = h .few;
-          sets = ap₂ take count-sets (h .packed-sets) ∙ take-append-seam (map setOf placed) (replicate (mostSteps - count) 0) ∙ placed-told;
-        }
+      placed-told : map setOf placed ≡ restatedSteps b
+      placed-told = ap (λ (ys : List ℕ). map setOf (foata (dependent (tables b)) (flat ys))) (g .steps-told) ∙ sym (restated-normal b)
+
+      count-sets : count ≡ length (map setOf placed)
+      count-sets = holds .counted ∙ sym (length-map placed setOf)
+
+      whole : length packed ≡ mostSteps
+      whole =
+          let f = holds .few in
+          let e = count-sets in
+          let z = length-replicate {A = ℕ} (mostSteps - count) 0 in
+          ap length (holds .packed-sets) ∙ length-append (map setOf placed) (replicate (mostSteps - count) 0) ∙ omega arith
+
+      -- N8: packed, they are the restated steps
+      pub packed-told : PackedSteps b packed count
+      packed-told =
+          record {
+            size = whole;
+            counted = count-sets ∙ ap length placed-told;
+            few = holds .few;
+            sets = ap₂ take count-sets (holds .packed-sets)
+                ∙ take-append-seam (map setOf placed) (replicate (mostSteps - count) 0)
+                ∙ placed-told;
+          }

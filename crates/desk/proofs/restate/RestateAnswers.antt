@@ -6,20 +6,18 @@ use Prim.Native.Nat.{ℕ, _+_, _*_, _≤_, _<_}
 use native.Mathlib.Omega.{arith}
 use lib.ListN.{length, take}
 use Rattle.sets.specs.Lists.{over}
-use Rattle.sheet.specs.Layout.{front}
 use Rattle.sheet.specs.Writing.{sheetOf}
 use Rattle.sheet.specs.Verdict.{Verdict, verdict}
-use Rattle.sheet.proofs.RoundTrip.{front-length}
 use Rattle.answers.specs.declared.Sizes.{Sizes}
 use Rattle.answers.specs.declared.Answer.{Answer}
 use Rattle.answers.specs.declared.Answer.the-variants.{Given, Refused}
 use Rattle.answers.specs.Outcomes.{given, refused, values, oneValue}
 use Rattle.answers.specs.Restated.{restated}
 use Rattle.answers.specs.Restating.{restating}
-use Rattle.answers.proofs.Restated.{accepted-limits, restated-reads}
+use Rattle.answers.proofs.Restated.{restated-reads}
 use Rattle.answers.proofs.LentOutput.{refused-first, refused-short, given-long, refused-kept, given-output}
 use Rattle.answers.proofs.Passing.{IsRefusal}
-use Rattle.desk.specs.AcceptedSheet.{AcceptedSheet}
+use Rattle.desk.specs.AcceptedSheet.{SheetGiven}
 use Rattle.desk.specs.Left.{PackedSteps}
 use Rattle.desk.specs.Calls.{RestateAnswer}
 
@@ -33,29 +31,35 @@ pub restate-refused : (b out : List ℕ) (r : Answer) (v : Verdict) (s : IsRefus
 restate-refused b out r v s same =
     rw (s .answer-told) (refused-right b out (s .number) (s .index) 0 (refused-first b (length out) (s .number) (s .index) same))
 
-module _ (b : List ℕ) (z : Sizes) (r : AcceptedSheet b z) (packed : List ℕ) (count : ℕ) (p : PackedSteps b packed count) where
-  sheet-told : sheetOf (take (z .s) b) (z .n) (z .m) (take count packed) ≡ restated b
-  unfolding restated front
-  sheet-told = ap₂ (λ (x : ℕ) (xs : List ℕ). sheetOf (take x b) (z .n) (z .m) xs) (r .sizes-read .s-read) (p .sets) ∙ rw (r .sizes-read .n-read, r .sizes-read .m-read)
+module _ (b before section : List ℕ) (z : Sizes) (o : List ℕ) (g : SheetGiven b before section z o) (packed : List ℕ) (count : ℕ)
+    (p : PackedSteps b packed count)
+  where
+    sheet-told : sheetOf before (z .n) (z .m) (take count packed) ≡ restated b
+    unfolding restated
+    sheet-told =
+        let k = g .sheet .sizes-read in
+        ap₂ (λ (x xs : List ℕ). sheetOf x (z .n) (z .m) xs) (g .front-told) (p .sets) ∙ rw (k .n-read, k .m-read)
 
-  size-told : z .s + 8 * count + 10 ≡ length (restated b)
-  unfolding restated
-  size-told =
-      let total = restated-reads b (r .sheet-accepted) .total in
-      let before = front-length b (accepted-limits b (r .sheet-accepted)) in
-      let e = p .counted in
-      omega arith
+    size-told : length before + 8 * count + 10 ≡ length (restated b)
+    unfolding restated
+    size-told =
+        let total = restated-reads b (g .sheet .sheet-accepted) .total in
+        let same = ap length (g .front-told) in
+        let e = p .counted in
+        omega arith
 
-  -- R13: the output is too short for the restated sheet, and is as it came (O5)
-  pub restate-short : (out : List ℕ) → length out < z .s + 8 * count + 10 → RestateAnswer b out (Refused 13 0 0) out
-  restate-short out h = refused-right b out 13 0 0 (refused-short b (length out) (r .sheet-accepted) (let e = size-told in omega arith))
+    -- R13: the output is too short for the restated sheet, and is as it came (O5)
+    pub restate-short : (out : List ℕ) → length out < length before + 8 * count + 10 → RestateAnswer b out (Refused 13 0 0) out
+    restate-short out h =
+        let e = size-told in refused-right b out 13 0 0 (refused-short b (length out) (g .sheet .sheet-accepted) (omega arith))
 
-  -- N9: the packed steps, written with tables and trailer, are the restated sheet in the output
-  pub restate-written : (out after : List ℕ) → z .s + 8 * count + 10 ≤ length out
-      → after ≡ over (sheetOf (take (z .s) b) (z .n) (z .m) (take count packed)) out → RestateAnswer b out (Given (z .s + 8 * count + 10)) after
-  restate-written out after h e =
-      let enough = given-long b (length out) (r .sheet-accepted) (let z = size-told in omega arith) in
-      record {
-        answer-told = ap (λ (k : ℕ). given (oneValue k)) size-told ∙ ap (values oneValue) (sym enough);
-        output-left = e ∙ ap (λ (x : List ℕ). over x out) sheet-told ∙ sym (given-output b out (length (restated b)) enough);
-      }
+    -- N9: the packed steps, written with tables and trailer, are the restated sheet in the output
+    pub restate-written : (out after : List ℕ) → length before + 8 * count + 10 ≤ length out
+        → after ≡ over (sheetOf before (z .n) (z .m) (take count packed)) out
+        → RestateAnswer b out (Given (length before + 8 * count + 10)) after
+    restate-written out after h e =
+        let enough = given-long b (length out) (g .sheet .sheet-accepted) (let z = size-told in omega arith) in
+        record {
+          answer-told = ap (λ (k : ℕ). given (oneValue k)) size-told ∙ ap (values oneValue) (sym enough);
+          output-left = e ∙ ap (λ (x : List ℕ). over x out) sheet-told ∙ sym (given-output b out (length (restated b)) enough);
+        }

@@ -1,0 +1,3 @@
+mod RunWords
+mod LinedColumns
+mod MergedColumns

@@ -1,0 +1,3 @@
+pub mod Showing
+pub mod Lining
+mod Taking

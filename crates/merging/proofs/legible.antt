@@ -1,0 +1,4 @@
+pub mod Arrays
+mod Counts
+mod Ends
+mod Reading

@@ -1,0 +1,4 @@
+pub mod legible
+pub mod heads
+pub mod merge
+pub mod Words

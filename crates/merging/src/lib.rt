@@ -1,0 +1,102 @@
+// An execution given by columns, one for each component, restated as a sheet (document 02, request 3).
+mod heads;
+mod legible;
+mod merge;
+
+ghost use mathlib.Core.Path.{_≡_};
+ghost use Rattle.answers.specs.declared.Answer.the-variants.{Refused};
+ghost use Rattle.desk.specs.AcceptedSheet.{AcceptedSheet};
+ghost use Rattle.desk.specs.Left.{ParticipantsLeft};
+ghost use Rattle.columns.specs.Calls.{ColumnsAnswer};
+ghost use Rattle.merging.specs.Words.{WordGiven, WordAnswer};
+use answers::Answer;
+use answers::Sizes;
+use desk::alphabets;
+use desk::restate;
+use desk::verdict;
+
+// The refusal with this number.
+fn refuse(number: u64) -> Answer
+    ensures { λ r. ⌜ r ≡ Refused number 0 0 ⌝ }
+{
+    Answer::Refused {
+        number,
+        index: 0,
+        sheet: 0,
+    }
+}
+
+// 19 where the actions of the section, each a step of its own, cannot be executed over the tables of an accepted sheet; else the sheet with
+// these steps is restated into the output.
+fn restate_word(
+    sheet: &[u8],
+    sizes: Sizes,
+    alphabets: &[u64],
+    section: &[u8],
+    out: &mut [u8],
+) -> Answer
+    requires { ⌜ WordGiven (now sheet) sizes (now alphabets) (now section) ⌝ }
+    ensures { λ r. ⌜ WordAnswer (now (sheet .entry)) (now (section .entry)) (now (out .entry)) r (now (out .exit)) ⌝ }
+{
+    let s = sizes.s;
+    let mut participants = [0u64; 64];
+    let mut held = [0u64; 16];
+    let run = machine::run_from_start(
+        &sheet[..s],
+        section,
+        sizes,
+        alphabets,
+        &mut participants,
+        &mut held,
+    );
+    let Answer::Accepted(_) = run else {
+        return refuse(19);
+    };
+    restate::write_restated(&sheet[..s], section, sizes, &participants, out)
+}
+
+// 18 and 19 of the columns for an accepted sheet, or the restated sheet that has them.
+fn merge_columns(
+    sheet: &[u8],
+    sizes: Sizes,
+    participants: &[u64],
+    columns: &[u8],
+    out: &mut [u8],
+) -> Answer
+    requires { ⌜ AcceptedSheet (now sheet) sizes × ParticipantsLeft (now sheet) (now participants) ⌝ }
+    ensures { λ r. ⌜ ColumnsAnswer (now (sheet .entry)) (now (columns .entry)) (now (out .entry)) r (now (out .exit)) ⌝ }
+{
+    let n = sizes.n;
+    let mut alphabets = [0u64; 16];
+    alphabets::alphabets_of(sheet, sizes, &mut alphabets);
+    let mut heads = [0usize; 16];
+    let mut ends = [0usize; 16];
+    if !legible::read_columns(columns, n, &alphabets, &mut heads, &mut ends) {
+        return refuse(18);
+    }
+    let mut section = [0u8; 8192];
+    let count = merge::merge(columns, n, participants, &mut heads, &ends, &mut section);
+    if heads::some_left(&heads, &ends, n) {
+        return refuse(19);
+    }
+    restate_word(sheet, sizes, &alphabets, &section[..8 * count], out)
+}
+
+// V3, O9: restates the execution whose columns are given over the tables of a sheet, and gives how many bytes were written. The refusals
+// are those of the sheet, then 18 and 19 of the columns, and last 13. A refused call leaves the output as it came, and bytes behind the
+// restated sheet keep their values.
+pub fn columns(sheet: &[u8], columns: &[u8], out: &mut [u8]) -> Answer
+    ensures { λ r. ⌜ ColumnsAnswer (now (sheet .entry)) (now (columns .entry)) (now (out .entry)) r (now (out .exit)) ⌝ }
+{
+    let read = reading::read_trailer(sheet);
+    let Answer::Accepted(sizes) = read else {
+        return read;
+    };
+    let mut participants = [0u64; 64];
+    let mut held = [0u64; 16];
+    let judged = verdict::judge_tables(sheet, sizes, &mut participants, &mut held);
+    let Answer::Accepted(known) = judged else {
+        return judged;
+    };
+    merge_columns(sheet, known, &participants, columns, out)
+}
