@@ -78,7 +78,7 @@ enum oatmist_refusal {
     OATMIST_REFUSAL_ROW = 16,            /* a row is idle throughout, or repeats an earlier row */
     OATMIST_REFUSAL_IDLE_COMPONENT = 17, /* a component is idle in every row */
     OATMIST_REFUSAL_COLUMNS = 18,        /* the columns do not fill their bytes, have too many labels, or one outside its alphabet */
-    OATMIST_REFUSAL_NO_EXECUTION = 19    /* no accepted sheet over these tables has these columns */
+    OATMIST_REFUSAL_NO_EXECUTION = 19    /* no execution of this system has these columns */
 };
 
 /* The check. Four values: the number of components, the number of actions, where the transitions begin and where the steps begin. */

@@ -2,16 +2,27 @@
 import re
 
 from .faults import Fault, cut, listed, quoted
-from .indices import begins_columns
-from .letters import as_typed
+from .indices import begins_columns, of_tables
+from .letters import INSTEAD, as_typed
 from .model import Columns
 from .steps import BOTH, unknown_action
 
 LONGEST = 65535  # actions of a column that can be handed to the desk; it refuses far fewer
-DASHES = ("-", "–", "—")
-BETWEEN = re.compile(r"[-=]?[>＞]|[,;|/+&，、→⟶⇒]")  # what stands between actions where a space should, and in no name
+DASHES = "-" + "".join(letter for letter, written in INSTEAD.items() if written == "-")
+SIGNS = ",;|/+&，、→⟶⇒"
+BETWEEN = re.compile(rf"[-=]?[>＞]|[{SIGNS}]|^[{DASHES}]+$")  # what stands between actions where a space should, and in no name
+NO_ACTION = DASHES + SIGNS + "=>＞"  # what may stand alone in a column where nothing should
+NUMBER = re.compile(r"[0-9]+$")  # what an index makes at the end of a name
+FRONT = re.compile(r"[^\s,;=]*")  # the first word of a line, without signs behind it
 WIDE = "："  # a colon, as some keyboards write it
 ALONE = "'columns' stands alone in its line: write each column in a line of its own below it"
+BELOW = "columns stand below the word 'columns': write it in a line above them"
+
+
+def is_column(text, components):
+    """Whether a line begins as the column of one of these components."""
+    name, colon, _ = text.partition(":")
+    return bool(colon) and name.strip() in (component.name for component in components)
 
 
 class ColumnLines:
@@ -22,6 +33,7 @@ class ColumnLines:
         self.numbers = {name: number for number, name in enumerate(tables.actions)}
         self.names = [component.name for component in tables.components]
         self.columns = Columns([None] * len(self.names), [0] * len(self.names))
+        self.last = None  # the component whose column was taken last
 
     def take(self, text, line):
         """A column: a component, a colon, its actions in order."""
@@ -31,22 +43,46 @@ class ColumnLines:
         name, actions = name.strip(), actions.split()
         index = self.component(name)
         if self.columns.lists[index] is not None:
-            raise Fault(f"the column of {quoted(name)} is already there, in line {self.columns.lines[index]}: delete one of the two")
+            self.twice(name, self.columns.lines[index], line)
         if len(actions) > LONGEST:
             raise Fault(f"more than {LONGEST:,} actions in the column of {quoted(name)}: shorten it")
+        if actions and not "".join(actions).strip(NO_ACTION):
+            raise Fault(f"{quoted(actions[0])} is no action: where {cut(name)} does nothing, write nothing behind the colon")
         self.columns.lists[index] = [self.action(index, word) for word in actions]
         self.columns.lines[index] = line
+        self.last = index
+
+    def twice(self, name, first, line):
+        """Tells of a second column of a component, by the lines of the two."""
+        if first == line:
+            raise Fault(f"'for' repeats the line, not its actions: write each action of {cut(name)} as often as it comes"
+                        + (", or write the index in the name before the colon" if self.indexed(name) else ""))
+        raise Fault(f"the column of {quoted(name)} is already there, in line {first}: delete one of the two")
+
+    def indexed(self, name):
+        """Whether a name may come of an index: that of another component differs from it only in the number at the end."""
+        return [NUMBER.sub("#", other) for other in self.names].count(NUMBER.sub("#", name)) > 1
 
     def no_column(self, text):
-        """Tells how to write what stands where a column should."""
-        word = text.split()[0]
+        """Tells of a line without a colon, which is no column."""
         if begins_columns(text):
             raise Fault("'columns' stands twice: delete the second")
-        if word in ("steps", "raw") or text.startswith("{"):
+        if text.split()[0] in ("steps", "raw") or text.startswith("{"):
             raise Fault(BOTH)
-        name = word if word in self.names else cut(self.names[0])
-        hint = f"instead of {WIDE} write :" if WIDE in text else f"write {name}: and its actions in order, in one line"
+        hint = f"instead of {WIDE} write :" if WIDE in text else self.hint(FRONT.match(text)[0], text)
         raise Fault(f"no column: {quoted(text)}; {hint}")
+
+    def hint(self, word, text):
+        """How to write what stands where a column should; `word` is its first word."""
+        known = word in self.names or word in self.numbers
+        if not known and of_tables(text):
+            return "the system stands above the columns: put its lines there, or delete them"
+        free = [name for name, actions in zip(self.names, self.columns.lists) if actions is None]
+        if word in free or self.last is None:
+            return f"write {cut(word if word in free else free[0])}: and its actions in order, in one line"
+        index = self.names.index(word) if word in self.names else self.last
+        return (f"a column stands in one line: put the actions into that of {cut(self.names[index])}, in line {self.columns.lines[index]}"
+                + ("" if known else ", or begin with a component and a colon"))
 
     def component(self, name):
         if name not in self.names:
@@ -70,8 +106,6 @@ class ColumnLines:
             own = [action for action, number in self.numbers.items() if number in self.alphabets[index]]
             raise Fault(f"action {quoted(word)} is not in the alphabet of {quoted(name)}, but in that of {cut(listed(others), 200)}: "
                         f"{cut(name)} has {cut(' '.join(own), 300)}")
-        if word in DASHES:
-            raise Fault(f"{quoted(word)} is no action: where {cut(name)} does nothing, write nothing behind the colon")
         if ":" in word:
             raise Fault("each column stands in a line of its own: begin a new one with the next component")
         sign = BETWEEN.search(word)

@@ -48,7 +48,7 @@ def too_many(_, columns):
         total += len(actions)
     sentence = (f"the columns have {total:,} actions together: shorten them to {DESK.events:,}; "
                 "a shared action counts in each column that has it")
-    return Unfit("execution", calls.COLUMNS, closed(sentence), line)
+    return Unfit("", calls.COLUMNS, closed(sentence), line)
 
 
 def no_execution(system, columns):

@@ -27,11 +27,12 @@ class Fault(Exception):
 
 
 class Unfit(Fault):
-    """A sheet or a product that the desk refuses whatever its steps are, or columns that no execution has: what it is not, the number, what
-    to mend, and lines that tell more where there is room for them."""
+    """A sheet or a product that the desk refuses whatever its steps are, or columns: what there is not ('' for columns that are too many), the
+    number, what to mend, and lines that tell more where there is room for them."""
 
     def __init__(self, what, number, sentence, line=0, more=()):
-        super().__init__(f"no {what}, refused by {number}: {sentence}", line, status=1)
+        front = f"no {what}, " if what else ""
+        super().__init__(f"{front}refused by {number}: {sentence}", line, status=1)
         self.number, self.sentence, self.more = number, sentence, "".join(more)
 
 

@@ -22,6 +22,7 @@ NO_BRACKETS = "a column has no brackets around its actions: write them one after
 LONGEST = 100  # characters of one piece of arithmetic, or of one range
 DIGITS = 6  # of a number
 MOST = 1024  # values that the indices of one line have together
+TABLES = ("actions", "component", "states", "initial", "also", "rows")  # with what lines of a system or of a product begin
 
 
 class Line(NamedTuple):
@@ -109,7 +110,8 @@ class Arithmetic:
 
     def index(self, name):
         if name not in self.values:
-            raise Fault(f"{quoted(name)} has no value here: end the line, or that of its component, with 'for {name} in 0..4'")
+            raise Fault(f"{quoted(name)} has no value here: end the line with 'for {name} in 0..4', or, inside a component, "
+                        "the line that begins it")
         return self.values[name]
 
 
@@ -171,13 +173,30 @@ def written(parts):
 
 
 def begins_rows(text):
-    """Whether a line begins the rows of a product. A transition from a state that is called rows does not."""
-    return text.split(None, 1)[0] == "rows" and "->" not in text
+    """Whether a line begins the rows of a product. A transition from a state that is called rows does not, nor does the column of a component
+    of this name."""
+    return text.split(None, 1)[0] == "rows" and "->" not in text and not text[len("rows"):].lstrip().startswith(":")
 
 
 def begins_columns(text):
     """Whether a line begins an execution as columns. A transition, a row and a column are longer, whatever they name."""
     return text == "columns"
+
+
+def of_tables(text):
+    """Whether a line belongs to a system or a product: by its first word, or since it is a transition."""
+    return text.split(None, 1)[0] in TABLES or text.find("->") > 0
+
+
+def meant(word):
+    """The word of the format that a word is not quite, or is; '' for others."""
+    bare = word.rstrip(":=;,.").casefold()
+    return next((right for right in (*TABLES, "steps", "columns") if bare in (right, right.rstrip("s"), right + "s")), "")
+
+
+def has_word(lines, *words):
+    """Whether some line begins with one of these words."""
+    return any(line.text.split(None, 1)[0] in words for line in lines)
 
 
 def blocks(lines):

@@ -80,7 +80,7 @@ def check_names(system, other):
 def need_steps(execution):
     """The execution of a text that must have one."""
     if execution is None:
-        raise Fault("this is a system without an execution: write 'steps' and the steps")
+        raise Fault("this is a system without an execution: write 'steps' and the steps, or 'columns' and the columns")
     return execution
 
 

@@ -3,10 +3,10 @@
 Numbers that are out of range are read as far as a byte can count them: to refuse them is for the desk.
 """
 from .faults import cut, quoted
-from .indices import begins_columns, begins_rows
+from .indices import begins_columns, begins_rows, of_tables
 from .letters import name_fault, odd_letter
 from .product import MOST, Machine, Product, Row, Transition
-from .reader import NO_INITIAL, NO_STATE, TABLES, WORDS, Reader
+from .reader import NO_INITIAL, NO_STATE, WORDS, Reader, no_columns
 
 EXAMPLE = "a transition of a product has a name: write 's1 -t1-> s2'"
 LINES = "a line begins with component, states, initial, rows, steps or columns, or is a transition such as 's1 -t1-> s2'"
@@ -100,9 +100,11 @@ class ProductReader(Reader):
         """Tells of a line that cannot be a row."""
         if word == "rows":
             self.fail("'rows' stands twice: delete the second")
+        if text == word or ":" in text:  # else it may be a row that is called columns
+            no_columns(text, self.tables.components)
         if any(sign in text.replace("->", "") for sign in BRACKETS) or text.endswith("->"):
             self.fail(ROW)
-        if word in TABLES or "->" in text:
+        if of_tables(text):
             self.fail("after 'rows' only rows, 'steps' and 'columns' may follow")
         if word.startswith("{") or word == "raw":
             self.not_understood(word, text)

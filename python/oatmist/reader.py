@@ -5,9 +5,9 @@
 import re
 
 from . import aldebaran
-from .column_reader import ALONE, ColumnLines
+from .column_reader import ALONE, BELOW, ColumnLines, is_column
 from .faults import Fault, cut, quoted
-from .indices import begins_columns, expanded
+from .indices import begins_columns, expanded, has_word, meant, of_tables
 from .letters import name_fault, odd_letter
 from .model import DESK, INTERNAL, Component, System
 from .steps import Steps
@@ -17,15 +17,18 @@ ARROW = re.compile(r"([^\s<>-]+)\s*-(?:\s*([^\s<>-]+)\s*-)?>\s*([^\s<>-]+)")
 EXAMPLES = "write 'idle -produce-> full', or 'full -> idle' for an internal one"
 NO_STATE, NO_INITIAL = "state: write 'states' and their names", "initial state: write 'initial' and a state"
 NO_SYSTEM = "but no system: the file of the system comes first, then that of the execution"
-TABLES = (*WORDS[:5], "rows")  # with what lines of a system or of a product begin
+SYSTEM_BELOW = "but its system stands below it: put the system first"
 LINES = ("a line begins with actions, component, states, initial, also, rows, steps or columns, "
          "or is a transition such as 'idle -produce-> full'")
 
 
-def meant(word):
-    """What to write for a word of the format that is not quite one; '' for others."""
-    bare = word.rstrip(":=").casefold()
-    return next((f"write '{right}'" for right in (*TABLES, "steps", "columns") if bare in (right, right.rstrip("s"), right + "s")), "")
+def no_columns(text, components):
+    """Tells of a line that may be meant to begin columns, or to be one, where the word 'columns' has not stood."""
+    word, *rest = text.split()
+    if is_column(text, components):
+        raise Fault(BELOW)
+    if meant(word) == "columns":
+        raise Fault(ALONE if rest else f"not understood: {quoted(text)}; write 'columns'")
 
 
 class Reader:
@@ -40,10 +43,14 @@ class Reader:
         self.places = {}  # components and transitions: their lines
         self.states = {}  # the states of the component: their numbers
         self.steps = None  # what takes the execution, once it has begun
+        self.no_system = NO_SYSTEM  # what is told of an execution where no system stands above it
         self.line = None
 
     def read(self, lines):
         """The tables, and the execution where the text has one."""
+        lines = list(lines)
+        if has_word(lines, "component"):
+            self.no_system = SYSTEM_BELOW
         try:
             for self.line in expanded(lines):
                 self.take(self.line.text)
@@ -82,7 +89,7 @@ class Reader:
 
     def begin_execution(self, word, text):
         if self.component is None:
-            self.fail(f"'{word}', {NO_SYSTEM}")
+            self.fail(f"'{word}', {self.no_system}")
         self.end_tables()
         if word == "columns":
             self.steps = ColumnLines(self.tables, self.line.number)
@@ -92,10 +99,10 @@ class Reader:
 
     def not_understood(self, word, text):
         if text.startswith("{") or word == "raw":
-            self.fail("a step, but there is no line 'steps' above it: write one" if self.component else f"a step, {NO_SYSTEM}")
-        if word == "columns":
-            self.fail(ALONE)
-        self.fail(f"not understood: {quoted(text)}; {meant(word) or odd_letter(text) or self.lines}")
+            self.fail("a step, but there is no line 'steps' above it: write one" if self.component else f"a step, {self.no_system}")
+        no_columns(text, self.tables.components)
+        hint = f"write '{meant(word)}'" if meant(word) else odd_letter(text) or self.lines
+        self.fail(f"not understood: {quoted(text)}; {hint}")
 
     def take_steps(self, word, text):
         if isinstance(self.steps, ColumnLines):
@@ -103,7 +110,7 @@ class Reader:
             return
         if word == "steps":
             self.fail("'steps' stands twice: delete the second")
-        if word in TABLES or "->" in text:
+        if of_tables(text):
             self.fail("after 'steps' only steps may follow: {a, b} or raw 0x..")
         self.steps.take(text)
 

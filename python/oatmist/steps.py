@@ -2,6 +2,7 @@
 import re
 
 from .faults import Fault, cut, quoted
+from .indices import meant
 from .letters import as_typed, name_fault, odd_letter
 from .model import Execution, bits
 
@@ -12,10 +13,14 @@ BRACES = ("{", "}")
 MOST = 131072  # steps that are read; the desk refuses far fewer
 RAW = re.compile(r"0[xX]([0-9a-fA-F]{1,16})")
 BOTH = "an execution is written as steps or as columns: delete one of the two"
+EACH = "write the steps alone, each as {a, b}"
+ELLIPSIS = "…"
 
 
 class Steps:
     """Takes steps. Whether they are too many, or empty, is for the desk to say."""
+
+    begun = True  # whether 'steps' has stood
 
     def __init__(self, actions):
         self.numbers = {name: number for number, name in enumerate(actions)}
@@ -35,16 +40,22 @@ class Steps:
 
     def hint(self, text):
         """How to write what stands where a step should."""
-        if text == "columns":
-            return BOTH
         if text.startswith("{") and "}" not in text:
             return "close the step with } in the same line"
         if text.startswith((",", ";")):
             return f"write no {text[0]} between steps"
-        if COLUMN.match(text):
-            return "write the steps alone, each as {a, b}; or, where these are columns, the word 'columns' in a line above them"
         first = SIGNS.split(text.strip())[0]
-        return f"write {{{cut(first)}}}" if first in self.numbers else "write the steps alone, each as {a, b}"
+        if text == "columns" or meant(first) == "columns" and first not in self.numbers:
+            return BOTH
+        if COLUMN.match(text) and "{" not in text:
+            return EACH + self.or_columns()
+        return f"write {{{cut(first)}}}" if first in self.numbers else EACH
+
+    def or_columns(self):
+        """What else to write where columns may be meant; behind steps they are not."""
+        if self.steps:
+            return ""
+        return "; or, where these are columns, " + ("'columns' in place of 'steps'" if self.begun else "the word 'columns' in a line above them")
 
     def add(self, step):
         if len(self.steps) == MOST:
@@ -83,7 +94,10 @@ class Steps:
 
 def unknown_action(word, numbers):
     """Tells that a word is none of the actions, and what to write."""
-    for bare in as_typed(word):
-        if bare in numbers:
-            raise Fault(f"action {quoted(word)} is in no alphabet: write {bare}")
+    plain, bare = as_typed(word)
+    for typed in (plain, bare):
+        if typed in numbers:
+            raise Fault(f"action {quoted(word)} is in no alphabet: write {typed}")
+    if word and not bare:
+        raise Fault(f"{quoted(word)} is no action: {'write the actions that it stands for, or ' if ELLIPSIS in word else ''}delete it")
     raise Fault(name_fault(bare) or f"action {quoted(word)} is in no alphabet: the system has {cut(' '.join(numbers), 300)}")

@@ -12,12 +12,12 @@ carried out, is too long or has an empty step is for the desk to say.
 """
 import itertools
 
-from .column_reader import ALONE, ColumnLines
+from .column_reader import ColumnLines
 from .faults import Fault, quoted
-from .indices import begins_columns, begins_rows, expanded, lines_of
+from .indices import begins_columns, begins_rows, expanded, has_word, lines_of, meant
 from .model import DESK, INTERNAL, Columns
 from .product_reader import ProductReader
-from .reader import SystemReader, meant
+from .reader import SystemReader, no_columns
 from .steps import Steps
 
 WIDTH = 80
@@ -40,23 +40,22 @@ def has_rows(text):
 
 def has_system(text):
     """Whether a text describes a system or a product, and not an execution alone."""
-    lines = [line.text for line in lines_of(text)]
-    return not begins_columns(lines[0] if lines else "") and any(line.split(None, 1)[0] in ("component", "actions") for line in lines)
+    lines = list(lines_of(text))
+    return has_word(lines, "component", "actions") and not begins_columns(lines[0].text)
 
 
 def read_execution(text, system):
     """The execution of a text that has it alone: columns below the word 'columns', or steps with or without the word 'steps' before them."""
     lines = list(lines_of(text))
     if not lines:
-        raise Fault("nothing is written here: an execution without steps is the word 'steps' alone")
+        raise Fault("nothing is written here: write steps or columns; an execution without steps is the word 'steps' alone")
     if begins_columns(lines[0].text):
         columns = ColumnLines(system, lines[0].number)
         return taken(itertools.islice(expanded(lines), 1, None), lambda line: columns.take(line.text, line.number), columns)
-    steps = StepLines(system.actions)
+    steps = StepLines(system)
     for line in lines:
         if line.text[0] in "[(":
             raise Fault("a step stands between braces: write {a, b}", line.number)
-    no_columns(lines[0], system)
     return taken(expanded(lines), lambda line: steps.take_line(line.text), steps)
 
 
@@ -71,24 +70,19 @@ def taken(lines, take, execution):
     return execution.execution()
 
 
-def no_columns(line, system):
-    """Tells of columns that do not begin as they must."""
-    if line.text.split(None, 1)[0] == "columns":
-        raise Fault(ALONE, line.number)
-    if meant(line.text) == "write 'columns'":
-        raise Fault(f"not understood: {quoted(line.text)}; write 'columns'", line.number)
-    name, colon, _ = line.text.partition(":")
-    if colon and name.strip() in (component.name for component in system.components):
-        raise Fault("columns stand below the word 'columns': write it in a line above them", line.number)
-
-
 class StepLines(Steps):
     """Takes the lines of a text of steps alone."""
 
-    begun = False  # whether 'steps' has stood
+    begun = False
+
+    def __init__(self, system):
+        super().__init__(system.actions)
+        self.components = system.components
 
     def take_line(self, text):
         """One line."""
+        if not self.begun and not self.steps:
+            self.check_first(text)
         if text.split(None, 1)[0] != "steps":
             self.take(text)
             return
@@ -96,6 +90,13 @@ class StepLines(Steps):
             raise Fault("'steps' stands a second time, or after steps: delete it")
         self.begun = True
         self.take(text[len("steps"):])
+
+    def check_first(self, text):
+        """The first line may show that columns are meant, or begin with a word that is not quite 'steps'."""
+        no_columns(text, self.components)
+        word = text.partition("{")[0].strip()
+        if word != "steps" and meant(word) == "steps":
+            raise Fault(f"not understood: {quoted(text)}; write 'steps'")
 
 
 def named_lines(word, names, indent):

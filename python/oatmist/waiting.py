@@ -99,13 +99,13 @@ class Found:
         return [] if self.hindrance(j) else [k for k in self.awaited(j) if k not in lacking]
 
     def circles(self):
-        """For each component that waits for itself by way of others a shortest circle, each once: every one waits for the next, and the last
-        for the first."""
+        """For each component that waits for itself by way of others a shortest circle, each once and the shortest first: every one waits for
+        the next, and the last for the first."""
         blockers, found = {j: self.blockers(j) for j in self.waiting}, {}
         for j in self.waiting:
             circle = shortest_circle(blockers, j)
             found.setdefault(frozenset(circle), circle)
-        return list(filter(None, found.values()))
+        return sorted(filter(None, found.values()), key=len)
 
     # ---- in words
 

@@ -23,6 +23,18 @@ BAD = [  # the line that is told, what is said, the text of columns
     (3, "no column: 'Consumer start'; write Consumer: and its actions in order, in one line", "columns\nProducer: produce\nConsumer start"),
     (2, "no column: 'produce'; write Producer: and its actions in order, in one line", "columns\nproduce"),
     (2, "no column: 'Producer： produce'; instead of ： write :", "columns\nProducer： produce"),
+    (4, "no column: 'deliver'; a column stands in one line: put the actions into that of Consumer, in line 3", "columns\nProducer: produce\nConsumer: start\n  deliver"),
+    (3, "a column stands in one line: put the actions into that of Consumer, in line 2", "columns\nConsumer:\n  start deliver\nProducer:"),
+    (3, "a column stands in one line: put the actions into that of Consumer, in line 2", "columns\nConsumer: start\n -> deliver\nProducer:"),
+    (4, "no column: 'Producer deliver'; a column stands in one line: put the actions into that of Producer, in line 2",
+     "columns\nProducer: produce\nConsumer:\nProducer deliver"),
+    (3, "a column stands in one line: put the actions into that of Producer, in line 2, or begin with a component and a colon",
+     "columns\nProducer:\nConsumr start"),
+    (3, "no column: 'Consumer; start'; write Consumer: and its actions in order, in one line", "columns\nProducer:\nConsumer; start"),
+    (3, "no column: 'component X'; the system stands above the columns: put its lines there, or delete them", "columns\nProducer:\ncomponent X"),
+    (3, "no column: 'idle -produce-> full'; the system stands above the columns", "columns\nProducer:\nidle -produce-> full"),
+    (2, "no column: 'states idle full'; the system stands above the columns", "columns\nstates idle full"),
+    (2, "the system stands above the columns", "columns\n" + TWO),
     (3, "an execution is written as steps or as columns: delete one of the two", "columns\nProducer: produce\n{start}"),
     (3, "an execution is written as steps or as columns: delete one of the two", "columns\nProducer:\nsteps {start}"),
     (3, "an execution is written as steps or as columns: delete one of the two", "columns\nProducer:\nraw 0x1"),
@@ -33,10 +45,20 @@ BAD = [  # the line that is told, what is said, the text of columns
     (1, "not understood: 'Columns'; write 'columns'", "Columns\nProducer: produce"),
     (2, "not understood: 'columns:'; write 'columns'", "\ncolumns:\nProducer: produce"),
     (1, "not understood: 'column'; write 'columns'", "column\nProducer: produce"),
+    (1, "not understood: 'columns;'; write 'columns'", "columns;\nProducer: produce"),
+    (1, "'columns' stands alone in its line", "Columns Producer: produce"),
     (1, "columns stand below the word 'columns': write it in a line above them", "Producer: produce\nConsumer:"),
     (1, "no step: 'Prodcer: produce'; write the steps alone, each as {a, b}; or, where these are columns, the word 'columns' in a line above them",
      "Prodcer: produce\nConsumer:"),
-    (2, "or, where these are columns, the word 'columns'", "steps\nProducer : produce"),
+    (2, "no step: 'Producer : produce'; write the steps alone, each as {a, b}; or, where these are columns, 'columns' in place of 'steps'",
+     "steps\nProducer : produce"),
+    (2, "no step: 'Columns'; an execution is written as steps or as columns", "{produce}\nColumns\nProducer:"),
+    (2, "no step: 'columns:'; an execution is written as steps or as columns", "steps\ncolumns:\nProducer:"),
+    (2, "an execution is written as steps or as columns", "{produce}\ncolumns Producer: produce"),
+    (1, "not understood: 'steps: {produce}'; write 'steps'", "steps: {produce}"),
+    (1, "not understood: 'Steps: {produce}'; write 'steps'", "Steps: {produce}"),
+    (2, "not understood: 'Steps'; write 'steps'", "\nSteps\n{produce}"),
+    (1, "not understood: 'step:{produce}'; write 'steps'", "step:{produce}"),
     # components
     (2, "there is no component 'producer': the system has Producer Consumer", "columns\nproducer: produce\nConsumer:"),
     (2, "there is no component '': the system has Producer Consumer", "columns\n: produce\nConsumer:"),
@@ -60,12 +82,27 @@ BAD = [  # the line that is told, what is said, the text of columns
     (2, "'produce，' is no action: write no ， between actions", "columns\nProducer: produce， deliver"),
     (3, "'-' is no action: where Consumer does nothing, write nothing behind the colon", "columns\nProducer:\nConsumer: -"),
     (3, "'–' is no action: where Consumer does nothing", "columns\nProducer:\nConsumer: –"),
+    (3, "'−' is no action: where Consumer does nothing", "columns\nProducer:\nConsumer: −"),
+    (3, "'-' is no action: where Consumer does nothing", "columns\nProducer:\nConsumer: - -"),
+    (2, "'-' is no action: write no - between actions, but spaces alone", "columns\nProducer: produce - deliver"),
+    (2, "'–' is no action: write no – between actions, but spaces alone", "columns\nProducer: produce – deliver"),
+    (2, "'--' is no action: write no -- between actions, but spaces alone", "columns\nProducer: produce -- deliver"),
+    (2, "'…' is no action: write the actions that it stands for, or delete it", "columns\nProducer: produce … deliver"),
+    (2, "'“' is no action: delete it", "columns\nProducer: “ produce"),
+    (2, "'“…”' is no action: write the actions that it stands for, or delete it", "columns\nProducer: “…”"),
+    (3, "'/' is no action: where Consumer does nothing, write nothing behind the colon", "columns\nProducer:\nConsumer: /"),
+    (3, "'->' is no action: where Consumer does nothing, write nothing behind the colon", "columns\nProducer:\nConsumer: ->"),
+    (3, "'，' is no action: where Consumer does nothing", "columns\nProducer:\nConsumer: ， ，"),
+    (2, "'/' is no action: write no / between actions, but spaces alone", "columns\nProducer: produce / deliver"),
+    (1, "'”' is no action: delete it", "{produce, ”}"),
     (2, "each column stands in a line of its own: begin a new one with the next component", "columns\nProducer: produce Consumer: start"),
     (2, "a column has no braces: write its actions one after another", "columns\nProducer: {produce} {deliver}"),
     (2, "more than 65,535 actions in the column of 'Producer': shorten it", "columns\nProducer:" + " produce" * 65536),
     # indices
     (2, "'i' has no value here", "columns\nProducer: produce[i]\nConsumer:"),
-    (2, "the column of 'Producer' is already there, in line 2: delete one of the two (for i = 1)", "columns\nProducer: produce for i in 0..1\nConsumer:"),
+    (2, "'for' repeats the line, not its actions: write each action of Producer as often as it comes (for i = 1)",
+     "columns\nProducer: produce for i in 0..1\nConsumer:"),
+    (3, "the column of 'Producer' is already there, in line 2: delete one of the two (for i = 0)", "columns\nProducer:\nProducer: produce for i in 0..1"),
     (2, "a column has no brackets around its actions: write them one after another", "columns\nProducer: [produce deliver]\nConsumer:"),
     (3, "a column has no brackets around its actions: write them one after another", "columns\nProducer:\nConsumer:[start]"),
 ]
@@ -94,15 +131,31 @@ class Text(common.Case):
         before = SYSTEM.count("\n")
         self.faults([(before + line, message, SYSTEM + bad) for line, message, bad in (
             (1, "'columns' stands alone in its line", "columns Producer: produce"), (1, "write 'columns'", "Columns\n"),
+            (1, "'columns' stands alone in its line", "Columns Producer: produce"), (1, "write 'columns'", "columns;\n"),
+            (1, "columns stand below the word 'columns': write it in a line above them", "Producer: produce\nConsumer:"),
             (2, "an execution is written as steps or as columns", "steps\ncolumns\n"),
+            (2, "an execution is written as steps or as columns", "steps {produce}\nColumns\n"),
+            (2, "or, where these are columns, 'columns' in place of 'steps'", "steps\nProducer: produce"),
             (2, "an execution is written as steps or as columns", "columns\nsteps\n"))], text.read)
+
+    def test_steps_alone(self):
+        """Of columns nothing is said where there are braces, nor behind steps."""
+        for said in ("1: {produce}", "steps\n1: {produce}", "{produce}\n2: start", "steps {produce}\nConsumer: start"):
+            with self.assertRaisesRegex(Fault, "; write the steps alone, each as {a, b}$"):
+                text.read_execution(said, TABLES)
+        for name in ("column", "Columns"):
+            with self.assertRaisesRegex(Fault, f"no step: '{name}'; write {{{name}}}$"):
+                text.read_execution("{a}\n" + name, text.read(ONE + f"\n also {name}")[0])
 
     def test_no_system(self):
         """An execution that is given as the system."""
         due = "but no system: the file of the system comes first, then that of the execution"
-        self.faults([(1, f"'columns', {due}", "columns\n" + SYSTEM), (1, f"'columns', {due}", "columns"), (2, f"'columns', {due}", "# mine\n" + GOOD),
+        below = "but its system stands below it: put the system first"
+        self.faults([(1, f"'columns', {due}", "columns"), (2, f"'columns', {due}", "# mine\n" + GOOD),
                      (1, f"'steps', {due}", "steps {produce}"), (1, f"a step, {due}", "{produce}"),
-                     (1, f"'columns', {due}", "columns\n" + TWO)], lambda bad: inputs.read_text(bad))
+                     (1, f"'columns', {below}", "columns\n" + SYSTEM), (1, f"'columns', {below}", GOOD + SYSTEM),
+                     (2, f"'columns', {due}", "actions a\n" + GOOD), (1, f"'steps', {below}", "steps {produce}\n" + SYSTEM), (1, f"a step, {below}", "{produce}\n" + SYSTEM),
+                     (1, f"'columns', {below}", "columns\n" + TWO)], lambda bad: inputs.read_text(bad))
         path = self.write("columns.txt", GOOD)
         for words in (("mark", path, PAIR), ("show", path, "--columns"), ("show", path), ("class", path, ".")):
             self.assertEqual(self.call(*words), (2, "", f"{path}:1: 'columns', {due}\n"))
@@ -119,6 +172,12 @@ class Text(common.Case):
         system, given = text.read("component P[i] for i in 0..2\n states s\n initial s\n s -a[i]-> s\n s -b[(i+1)%3]-> s\n"
                                   "columns\n P[2-i]: a[2-i] a[2-i] for i in 0..1\n P0: b[0+1]")
         self.assertEqual([[system.actions[action] for action in actions] for actions in given.lists], [["b1"], ["a1", "a1"], ["a2", "a2"]])
+        with self.assertRaisesRegex(Fault, "columns stand below the word 'columns': write it in a line above them .for i = 0."):
+            text.read_execution("P[i]: a[i] for i in 0..2", system)
+        for names, more in (("P0 P1", ", or write the index in the name before the colon"), ("P0 Q1", ""), ("P0 P", "")):
+            system = text.read("".join(f"component {name}\n states s\n initial s\n s -a-> s\n" for name in names.split()))[0]
+            with self.assertRaisesRegex(Fault, f"write each action of P0 as often as it comes{more} .for i = 1.$"):
+                text.read_execution("columns\nP0: a for i in 0..1", system)
         with self.assertRaisesRegex(Fault, "'P1.2.' and 'P.12.' are both 'P12'"):
             text.read("component P1[2]\n states s\n initial s\n s -a-> s\ncolumns\nP[12]: a")
 
@@ -128,6 +187,9 @@ class Text(common.Case):
         self.assertEqual(text.read(said + "steps {columns}")[1].steps, [[0]])
         self.assertEqual(text.read(said + "columns\ncolumns: columns columns")[1].lists, [[0, 0]])
         self.assertEqual(text.read_execution("columns\ncolumns: columns", text.read(said)[0]).lists, [[0]])
+        for column in ("rows: a", "rows : a"):
+            said = f"component rows\n states s\n initial s\n s -a-> s\ncolumns\n{column} a"
+            self.assertEqual(inputs.read_text(said)[1].lists, [[0, 0]])
         product = TWO.replace(" a x -", " columns x -")
         self.assertEqual(inputs.read_text(product + "steps {columns}")[0].actions[0], "columns")
         self.assertEqual(inputs.read_text(product + "columns\nA: columns\nB:")[1].lists, [[0], []])
@@ -140,6 +202,9 @@ class Text(common.Case):
         self.assertEqual(text.read_product(TWO)[0].alphabets, system.alphabets)
         with self.assertRaisesRegex(Fault, "action 'c' is not in the alphabet of 'A', but in that of B: A has a b"):
             inputs.read_text(TWO + "columns\n A: c\n")
+        for said in ("A: a\nB:", "A : a\nB:"):
+            with self.assertRaisesRegex(Fault, "columns stand below the word 'columns'"):
+                inputs.read_text(TWO + said)
         with self.assertRaisesRegex(Fault, "'columns' stands before 'rows': write the rows first"):
             inputs.read_text(TWO.replace("rows\n", "columns\nrows\n"))
         with self.assertRaisesRegex(Unfit, "no product, refused by 16"):
@@ -209,12 +274,28 @@ class Refused(Quiet):
             self.assertEqual(self.call(words[0], path, "columns.txt", *words[1:]), (1, "", f"columns.txt:3: no execution, refused by 19: {sentence}\n"))
         os.mkdir("in")
         self.write("in/a.txt", "{start}")
-        self.told(self.call("class", path, "in", "--model", "columns.txt"), 1, f"columns.txt:3: no execution, refused by 19: {sentence}")
+        self.assertEqual(self.call("class", path, "in", "--model", "columns.txt"), (1, "", f"columns.txt:3: the model solution is refused by 19. {sentence}\n"))
         whole = self.write("whole.txt", SYSTEM + "columns\nProducer: deliver\nConsumer: deliver\n")
         line = SYSTEM.count("\n") + 2
         self.told(self.call("show", whole, "--steps"), 1, f"{whole}:{line}: no execution, refused by 19: With these columns nobody can begin. Place 1")
         for verb in ("lint", "graph", "show"):
             self.assertEqual(self.call(verb, whole).status, 0, verb)
+        self.left("columns.txt", "system.txt", "in", "whole.txt")
+
+    def test_verbs_18(self):
+        """R18: columns that are too many may have an execution, and no verb says that there is none."""
+        path, whole = self.write("system.txt", SYSTEM), self.write("whole.txt", SYSTEM + self.LONG)
+        self.write("columns.txt", self.LONG)
+        os.mkdir("in")
+        self.write("in/a.txt", "{start}")
+        sentence = refused(self.LONG)[2]
+        for verb in ("mark", "next"):
+            answer = self.call(verb, path, "columns.txt")
+            self.assertEqual((answer.status, answer.out.replace("\n", " ")), (1, f"refused (18) columns.txt:3: {sentence} "))
+        for words in (("make", "-o", "made"), ("picture", "-o", "made.svg")):
+            self.assertEqual(self.call(words[0], path, "columns.txt", *words[1:]), (1, "", f"columns.txt:3: refused by 18: {sentence}\n"))
+        self.assertEqual(self.call("class", path, "in", "--model", "columns.txt"), (1, "", f"columns.txt:3: the model solution is refused by 18. {sentence}\n"))
+        self.assertEqual(self.call("show", whole, "--steps"), (1, "", f"{whole}:{SYSTEM.count(chr(10)) + 3}: refused by 18: {sentence}\n"))
         self.left("columns.txt", "system.txt", "in", "whole.txt")
 
     def test_a_library_without_the_call(self):
@@ -278,12 +359,18 @@ class Verbs(Quiet):
     def test_show_refused(self):
         """R18, R19: columns that are refused are told, and not shown, in either form."""
         line = SYSTEM.count("\n") + 2
-        for said, number, place in (("columns\nProducer: deliver\nConsumer: deliver\n", 19, line), (Refused.LONG, 18, line + 1)):
+        for said, told, place in (("columns\nProducer: deliver\nConsumer: deliver\n", "no execution, refused by 19", line),
+                                  (Refused.LONG, "refused by 18", line + 1)):
             path = self.write("bad.txt", SYSTEM + said)
             answers = [self.call("show", path, form) for form in ("--columns", "--steps")]
             self.assertEqual(answers[0], answers[1])
             self.assertEqual(answers[0].out, "")
-            self.told(answers[0], 1, f"bad.txt:{place}: no execution, refused by {number}: ")
+            self.told(answers[0], 1, f"bad.txt:{place}: {told}: ")
+
+    def test_show_refused_steps(self):
+        """R12: steps that are refused are shown as steps, as they are."""
+        path = self.write("bad.txt", SYSTEM + "steps\n  {deliver}\n")
+        self.assertEqual(self.call("show", path, "--steps"), (0, "steps\n  {deliver}\n", ""))
 
     def test_show_too_many(self):
         """R18: the columns of an accepted execution are shown also where they are too many to be handed in, with a note."""

@@ -173,8 +173,10 @@ class Input(Quiet):
         self.told(self.call("mark", path), 2, f"{path}:1: there is no component")
         system = self.write("system", PLAIN.replace("\nsteps", ""))
         for verb in ("mark", "next", "make", "picture"):
-            self.told(self.call(verb, PAIR, path), 2, f"{path}: nothing is written here: an execution without steps is the word 'steps' alone")
-            self.told(self.call(verb, system, system), 2, f"{system}: this is a system without an execution: write 'steps' and the steps")
+            self.told(self.call(verb, PAIR, path), 2, f"{path}: nothing is written here: write steps or columns; an execution without steps is "
+                      "the word 'steps' alone")
+            self.told(self.call(verb, system, system), 2, f"{system}: this is a system without an execution: write 'steps' and the steps, "
+                      "or 'columns' and the columns")
         for model, told in ((path, "nothing is written here"), (system, "a system without an execution")):
             self.told(self.call("class", system, self.folder, "--model", model), 2, told)
         self.write("none", "steps")

@@ -77,6 +77,15 @@ BAD = [  # the line that is told, what is said, the text
     (14, "a row begins with its name", TWO + "- u"),
     (14, "a row begins with its name", TWO + "- - u"),
     (14, "'d:' is no name: it has :", TWO + "d: x -"),
+    # columns
+    (14, "not understood: 'Columns'; write 'columns'", TWO + "Columns\nA: a\nB:"),
+    (14, "not understood: 'columns:'; write 'columns'", TWO + "columns:\nA: a\nB:"),
+    (14, "'columns' stands alone in its line", TWO + "columns A: a"),
+    (14, "'columns' stands alone in its line", TWO + "Columns A: -"),
+    (14, "columns stand below the word 'columns'", TWO + "A: a"),
+    (14, "row 'columns' has 1 of 2 entries", TWO + "columns x"),
+    (15, "or, where these are columns, 'columns' in place of 'steps'", TWO + "steps\nA: a"),
+    (15, "an execution is written as steps or as columns", TWO + "steps {a}\nColumns"),
     (15, "'d1[2]' and 'd[12]' are both 'd12'", TWO + "d1[2] x -\nd[12] y -"),
     # entries
     (14, "row 'd' has 0 of 2 entries: behind its name write", TWO + "d"),

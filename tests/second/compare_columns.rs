@@ -243,20 +243,20 @@ const CLASSES: &[Class] = &[
     (19, "a list that cannot be executed", |s| s.why() == Some(Why::NotEnabled)),
 ];
 
-/// Classes of a refused sheet.
-const SHEETS: [&str; 6] = [
-    "columns, sheet refused by 1 to 9",
-    "columns, sheet refused by 10",
-    "columns, sheet refused by 11",
-    "columns, sheet refused by 12",
-    "columns, sheet refused by 10 to 12 with right columns",
-    "columns, sheet refused by 10 to 12 where 18 or 19 would hold too",
-];
+/// The class of a sheet that is refused by this number.
+fn refused_name(number: u64) -> String {
+    format!("columns, sheet refused by {number}")
+}
+
+/// Classes of a sheet whose steps are at fault.
+const RIGHT: &str = "columns, sheet refused by 10 to 12 with right columns";
+const WRONG: &str = "columns, sheet refused by 10 to 12 where 18 or 19 would hold too";
 
 pub fn class_names() -> Vec<String> {
     let mut names: Vec<String> = [0, 18, 19].map(|number| verdict_name("columns", number)).to_vec();
     names.extend(CLASSES.iter().map(|class| class_name("columns", class.0, class.1)));
-    names.extend(SHEETS.map(String::from));
+    names.extend((1..=12).map(refused_name));
+    names.extend([RIGHT, WRONG].map(String::from));
     names.extend(output_names("columns"));
     names
 }
@@ -291,15 +291,10 @@ fn count(
 
 /// A sheet that is refused; where its steps are at fault, whether the columns would be right without them.
 fn count_refused(classes: &mut Classes, number: u64, bytes: &[u8], columns: &[u8]) {
-    classes.add(SHEETS[(number as usize).saturating_sub(9)]);
+    classes.add(&refused_name(number));
     if number >= 10 {
         let bare = [&bytes[..s_of(bytes)], &bytes[bytes.len() - 10..]].concat();
-        classes.add(
-            SHEETS[if plain_columns::columns(&bare, columns).is_ok() {
-                4
-            } else {
-                5
-            }],
-        );
+        let right = plain_columns::columns(&bare, columns).is_ok();
+        classes.add(if right { RIGHT } else { WRONG });
     }
 }

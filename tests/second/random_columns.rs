@@ -430,16 +430,14 @@ fn make_too_many(dice: &mut Dice) -> Made<Input> {
 // ---------------------------------------------------------------------------------------------
 // O9: sheets that are refused, and any fault
 
-/// Columns beside a sheet that is refused, with its number: empty ones, none, any bytes.
+/// Columns beside a sheet that is refused, by each number as often: empty ones, none, any bytes.
 fn make_refused_sheet(dice: &mut Dice) -> Made<Input> {
+    let wanted = dice.from_to(1, 12) as u64;
     until(dice, |dice| {
         let at = dice.below(10_000);
         let case = sheets::case(dice, at);
-        // Mostly one whose steps are at fault.
-        match case.meant {
-            Meant::Refused(10..=12, _) => {}
-            Meant::Refused(..) if dice.percent(40) => {}
-            _ => return None,
+        if !matches!(case.meant, Meant::Refused(number, _) if number == wanted) {
+            return None;
         }
         let n = case.bytes.iter().rev().nth(3).copied().unwrap_or(0) as usize;
         let length = dice.pick(&[2 * n, 2 * n, 2 * n, 0, 9]);
@@ -518,7 +516,7 @@ pub const KINDS: &[Kind<Input>] = &[
     ("columns, 18 and 19", 4, |dice| faulty(dice, 18, &[uneven, label_outside])),
     ("columns, changed", 10, make_changed),
     ("columns, inserted", 6, make_inserted),
-    ("columns, refused sheet", 12, make_refused_sheet),
+    ("columns, refused sheet", 20, make_refused_sheet),
     ("columns, own steps", 5, make_own_steps),
     ("columns, byte flips", 6, make_byte_flips),
     ("columns, noise", 6, make_noise),

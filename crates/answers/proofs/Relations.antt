@@ -21,7 +21,7 @@ use Rattle.sheet.specs.Layout.{componentCount, actionCount, front, tablesOf, ta
 use Rattle.sheet.specs.Verdict.{Accepted}
 use Rattle.sheet.specs.Writing.{sheetOf}
 use Rattle.sheet.proofs.RoundTrip.{sheet-equal, steps-length, front-length, writes-back}
-use Rattle.answers.specs.Restated.{restatedSteps, restated}
+use Rattle.answers.specs.Restated.{withSteps, restatedSteps, restated}
 use Rattle.answers.specs.Related.{SameTables, RelatedSheets}
 use Rattle.answers.proofs.Normal.{normal, related-normal, normal-related, normal-equal, normal-fewest, normal-only, normal-lt}
 use Rattle.answers.proofs.Restated.{restated-normal, accepted-limits, accepted-order, accepted-fine, front-short, count-small, restated-front, restated-components, restated-actions, restated-steps-at, restated-read-steps, restated-step-count, restated-is-accepted}
@@ -131,6 +131,6 @@ restated-twice b acc = sym (related-same (restated-relation b acc))
 pub process-own : (c : List ℕ) → AreBytes c → Accepted c → Process (dependent (tables c)) (map members (steps c)) → restated c ≡ c
 unfolding restated
 process-own c bs acc p =
-    ap (sheetOf (front c) (componentCount c) (actionCount c))
+    ap (withSteps c)
     (restated-normal c ∙ normal-only (tables c) (accepted-order c acc) (steps c) (accepted-fine c acc) p)
     ∙ writes-back c bs (accepted-limits c acc)

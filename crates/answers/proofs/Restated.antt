@@ -15,12 +15,11 @@ use Rattle.sheet.specs.Numbers.{AreBytes}
 use Rattle.sheet.specs.Layout.{stepsAt, componentCount, actionCount, front, tables, stepCount, steps}
 use Rattle.sheet.specs.Limits.{InLimits}
 use Rattle.sheet.specs.Verdict.{Accepted}
-use Rattle.sheet.specs.Writing.{sheetOf}
 use Rattle.sheet.proofs.Numbers.{bytes-take}
 use Rattle.sheet.proofs.Limits.{limits-order}
 use Rattle.sheet.proofs.Verdicts.{accepted-exact}
 use Rattle.sheet.proofs.RoundTrip.{ReadsBack, reads-back, written-bytes, steps-length, front-length, sections-length}
-use Rattle.answers.specs.Restated.{restatedSteps, restated}
+use Rattle.answers.specs.Restated.{withSteps, restatedSteps, restated}
 use Rattle.answers.specs.Related.{SameTables}
 use Rattle.answers.proofs.Normal.{normal, normal-lt, normal-fine, normal-actions, normal-no-longer}
 
@@ -54,9 +53,6 @@ pub count-small : (b : List ℕ) → InLimits b → componentCount b < 256
 count-small b l = let h = l .components-high in omega arith
 
 -- ---- the sheet b with the steps xs in place of its own (S2, N9)
-
-abbrev pub withSteps : List ℕ → List ℕ → List ℕ
-withSteps b xs = sheetOf (front b) (componentCount b) (actionCount b) xs
 
 module _ (b : List ℕ) (l : InLimits b) (xs : List ℕ) (small : (x : ℕ) → List·Memᴰ x xs → x < 2 ^ 64) where
   -- S2 to S7, N9: it reads back as what was written

@@ -15,8 +15,14 @@ use Rattle.sheet.specs.Writing.{sheetOf}
 abbrev pub normal : Tables → List ℕ → List ℕ
 normal T xs = map setOf (foata (dependent T) (flat xs))
 
+-- those of the sheet b
 unfoldable pub restatedSteps : List ℕ → List ℕ
 restatedSteps b = normal (tables b) (steps b)
 
+-- S2, N9: the sheet b with the steps xs in place of its own: the bytes before S as they are, and a trailer to fit
+abbrev pub withSteps : List ℕ → List ℕ → List ℕ
+withSteps b xs = sheetOf (front b) (componentCount b) (actionCount b) xs
+
+-- N8: with those of its normal form
 unfoldable pub restated : List ℕ → List ℕ
-restated b = sheetOf (front b) (componentCount b) (actionCount b) (restatedSteps b)
+restated b = withSteps b (restatedSteps b)

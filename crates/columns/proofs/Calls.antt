@@ -3,15 +3,14 @@
 -- Assumes nothing.
 use mathlib.Core.Path.{_≡_, refl, sym, ap, _∙_, subst}
 use mathlib.Core.Logic.{_⊎_, inl, inr}
-use mathlib.Core.Bool.{true}
 use mathlib.Core.List.{List}
 use Prim.Native.Nat.{ℕ, _<_, _≤_}
 use native.Mathlib.Decide.{decLt}
 use native.Mathlib.Omega.{arith}
 use lib.ListN.{length}
 use Rattle.sets.specs.Lists.{over}
-use Rattle.sets.specs.Bits.{member}
 use Rattle.systems.specs.Tables.{Tables}
+use Rattle.sheet.specs.Layout.{componentCount, tables}
 use Rattle.sheet.specs.Verdict.{Verdict, IsVerdict, Accepted}
 use Rattle.sheet.proofs.Verdicts.{verdict-first, verdict-only}
 use Rattle.answers.specs.declared.Answer.{Answer}
@@ -20,13 +19,13 @@ use Rattle.answers.specs.Restated.{restated}
 use Rattle.answers.specs.Restating.{restating}
 use Rattle.answers.specs.Related.{SameTables}
 use Rattle.answers.specs.FirstRefusal.{Refusal, Numbered, TooShort, AtMostOne, NumberOr}
-use Rattle.answers.proofs.Told.{is-given, refused-told}
+use Rattle.answers.proofs.Told.{is-refused, is-given, refused-told}
 use Rattle.answers.proofs.LentOutput.{refused-short, given-long, refused-kept, given-output}
 use Rattle.answers.proofs.Relations.{same-tables, related-same}
 use Rattle.columns.specs.ColumnRefusals.{ColumnsIn, HasColumns, Executable}
 use Rattle.columns.specs.Calls.{ColumnsAnswer, sheet-refused, not-legible, not-executable, as-restated, ColumnsRefusal}
 use Rattle.columns.proofs.Classes.{tables-back, tables-on, has-related}
-use Rattle.columns.proofs.ColumnBytes.{columns-in-one}
+use Rattle.columns.proofs.ColumnBytes.{columns-in-one, filled-over}
 
 -- ---- the columns in the bytes, and the sheets that have them
 
@@ -106,10 +105,11 @@ numbered n = (refl, refl, refl)
 
 -- V3, O9: what the call promises says how it ends
 pub ended : {b d out : List ℕ} {r : Answer} {left : List ℕ} → ColumnsAnswer b d out r left → Ended b d out r left
-ended {b} (sheet-refused k i v e a) =
-    refuses k i 0 (inl (subst (IsVerdict b) v (verdict-first b), refl)) e a
-ended (not-legible acc n e a) = refuses 18 0 0 (inr (acc, inl (n, numbered 18))) e a
-ended (not-executable acc cs x n e a) = refuses 19 0 0 (inr (acc, inr (cs, x, inl (n, numbered 19)))) e a
+ended {b} {r = r} (sheet-refused k i v e a) =
+    refuses k i 0 (inl (subst (IsVerdict b) v (verdict-first b), refl)) (is-refused r k i 0 e) a
+ended {r = r} (not-legible acc n e a) = refuses 18 0 0 (inr (acc, inl (n, numbered 18))) (is-refused r 18 0 0 e) a
+ended {r = r} (not-executable acc cs x n e a) =
+    refuses 19 0 0 (inr (acc, inr (cs, x, inl (n, numbered 19)))) (is-refused r 19 0 0 e) a
 ended {b} {d} {out} {r} {left} (as-restated acc cs x c h e a) = go (decLt (length out) (length (restated c)))
   where
     go : Dec (length out < length (restated c)) → Ended b d out r left
@@ -192,15 +192,9 @@ ended-fixed (writes acc cs x c h long f g) (writes acc′ ds y e k long′ m o) 
 module _ {b c : List ℕ} (same : SameTables b c) where
   -- R18 asks the same over the same tables
   columns-in-over : {d : List ℕ} {cs : List (List ℕ)} → ColumnsIn b d cs → ColumnsIn c d cs
-  columns-in-over {d} {cs} x =
-      record {
-        filled = x .filled;
-        one-each = x .one-each ∙ same .same-components;
-        few = x .few;
-        own = λ j l a m.
-            subst (λ (T : Tables). member (T .alphabet j) a ≡ true) (same-tables same)
-            (x .own j (subst (λ (n : ℕ). j < n) (sym (same .same-components)) l) a m);
-      }
+  columns-in-over x =
+      filled-over (componentCount c) (tables c .alphabet) (same .same-components)
+      (λ j l. ap (λ (T : Tables). T .alphabet j) (same-tables same)) x
 
   -- and so does R19
   has-over : {cs : List (List ℕ)} {x : List ℕ} → HasColumns b cs x → HasColumns c cs x

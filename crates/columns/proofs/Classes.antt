@@ -12,7 +12,7 @@ use Rattle.sets.specs.Lists.{below}
 use Rattle.sets.specs.Bits.{member}
 use Rattle.sets.proofs.Lists.{length-below, list-below-at}
 use Rattle.traces.specs.Words.{Related}
-use Rattle.traces.specs.Projections.{Covers}
+use Rattle.traces.specs.Projections.{Covers, AllDependent}
 use Rattle.traces.proofs.Projections.{projection-comm, projections-related, related-projections}
 use Rattle.systems.specs.Tables.{Tables, InOrder, WordOver}
 use Rattle.systems.specs.Independence.{dependent}
@@ -35,20 +35,20 @@ use Rattle.columns.specs.ColumnRefusals.{HasColumns}
 abbrev has : Tables → ℕ → ℕ → Bool
 has T j = member (T .alphabet j)
 
--- V5, N3: of two dependent actions an alphabet has both, of one also (R6); two that an alphabet has are dependent
+-- V5, N3: of two dependent actions an alphabet has both, of one also (R6)
 pub covers : (T : Tables) → InOrder T → Covers (dependent T) (T .components) (has T) (T .actions)
-covers T ok =
-    record {
-      shared = λ a b l m h. dependent-shares T a b (ok .action-used a l) .0 h;
-      within = λ j l a b x y. dependent-cases T a b .1 (inr (j, l, x, y));
-    }
+covers T ok a b l m h = dependent-shares T a b (ok .action-used a l) .0 h
+
+-- V5, N3: two actions that an alphabet has are dependent
+pub all-dependent : (T : Tables) → AllDependent (dependent T) (T .components) (has T)
+all-dependent T j l a b x y = dependent-cases T a b .1 (inr (j, l, x, y))
 
 -- V5: words over the tables are related exactly when their columns are the same
 pub same-words : (T : Tables) → InOrder T → (u v : List ℕ) → WordOver T u → WordOver T v
     → ((j : ℕ) → j < T .components → column T u j ≡ column T v j) ↔ Related (dependent T) u v
 same-words T ok u v p q = (
   projections-related (dependent T) (dependent-laws T) (T .components) (has T) (T .actions) (covers T ok) u v p q,
-  related-projections (dependent T) (dependent-laws T) (T .components) (has T) (T .actions) (covers T ok),
+  related-projections (dependent T) (T .components) (has T) (all-dependent T),
 )
 
 -- ---- the columns of a sheet (V1)

@@ -9,6 +9,7 @@ use native.Mathlib.Omega.{arith}
 use lib.ListN.{length, take, drop, getD, length-append}
 use lib.Seq.{take-append-seam, drop-append-seam}
 use Rattle.sets.specs.Lists.{appendAll, below}
+use Rattle.sets.specs.Bits.{member}
 use Rattle.sets.proofs.Bools.{and-true, leb-true}
 use Rattle.sets.proofs.Lists.{allOf-intro, allOf-elim, mem-below}
 use Rattle.sheet.specs.Numbers.{number}
@@ -17,7 +18,7 @@ use Rattle.sheet.specs.Refusals.{sameNumbers}
 use Rattle.sheet.proofs.Numbers.{number-bytes}
 use Rattle.sheet.proofs.Limits.{same-numbers}
 use Rattle.columns.specs.ColumnBytes.{columnBytes, columnsBytes}
-use Rattle.columns.specs.ColumnRefusals.{ColumnsIn, Legible}
+use Rattle.columns.specs.ColumnRefusals.{FilledBy, ColumnsIn, Legible}
 use Rattle.columns.specs.Reading.{firstColumn, behindFirst, readColumns, fewLabels, labelsOwn, areColumns, legible}
 
 -- ---- read back
@@ -42,14 +43,26 @@ columns-read (c ∷ cs) few =
     (ap (readColumns (length cs)) (behind-read c (columnsBytes cs) (omega arith)) ∙ columns-read cs (omega arith))
 
 -- R18: the columns that fill some bytes are those that are read in them
-pub columns-in-read : {b d : List ℕ} {cs : List (List ℕ)} → ColumnsIn b d cs → readColumns (componentCount b) d ≡ cs
-columns-in-read {b} {d} {cs} x =
+pub columns-in-read : {d : List ℕ} {n : ℕ} {alphabet : ℕ → ℕ} {cs : List (List ℕ)} → FilledBy d n alphabet cs → readColumns n d ≡ cs
+columns-in-read {cs = cs} x =
     let few = x .few in
     ap₂ readColumns (sym (x .one-each)) (x .filled) ∙ columns-read cs (omega arith)
 
 -- R18: so they are one
-pub columns-in-one : {b d : List ℕ} {cs ds : List (List ℕ)} → ColumnsIn b d cs → ColumnsIn b d ds → cs ≡ ds
+pub columns-in-one : {d : List ℕ} {n : ℕ} {alphabet : ℕ → ℕ} {cs ds : List (List ℕ)} → FilledBy d n alphabet cs → FilledBy d n alphabet ds
+    → cs ≡ ds
 columns-in-one x y = sym (columns-in-read x) ∙ columns-in-read y
+
+-- R18: it asks the same of as many components whose alphabets are the same
+pub filled-over : {d : List ℕ} {n : ℕ} {alphabet : ℕ → ℕ} {cs : List (List ℕ)} (m : ℕ) (other : ℕ → ℕ) → n ≡ m
+    → ((j : ℕ) → j < n → alphabet j ≡ other j) → FilledBy d n alphabet cs → FilledBy d m other cs
+filled-over {n = n} m other e same x =
+    record {
+      filled = x .filled;
+      one-each = x .one-each ∙ e;
+      few = x .few;
+      own = λ j l a i. let h : j < n = omega arith in ap (λ (y : ℕ). member y a) (sym (same j h)) ∙ x .own j h a i;
+    }
 
 -- ---- the test of R18
 

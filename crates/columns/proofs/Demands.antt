@@ -191,8 +191,6 @@ written-demand =
 pub projection-demand : ProjectionDemand
 projection-demand =
     record {
-      projections-tell = λ dep D count has m C u v p q. (
-        projections-related dep D count has m C u v p q,
-        related-projections dep D count has m C,
-      );
+      projections-tell = λ dep D count has m C u v p q. projections-related dep D count has m C u v p q;
+      projections-kept = λ dep count has A u v. related-projections dep count has A;
     }

@@ -25,9 +25,9 @@ use Rattle.sheet.specs.Bounds.{mostSteps, mostInSteps}
 use Rattle.sheet.specs.Layout.{componentCount, actionCount, front, tables, steps}
 use Rattle.sheet.specs.Limits.{InLimits}
 use Rattle.sheet.specs.Verdict.{Accepted}
-use Rattle.sheet.specs.Writing.{sheetOf}
 use Rattle.sheet.proofs.RoundTrip.{ReadsBack}
-use Rattle.answers.proofs.Restated.{accepted-limits, accepted-order, accepted-fine, withSteps, with-steps-reads, with-steps-tables, with-steps-same, with-steps-accepted}
+use Rattle.answers.specs.Restated.{withSteps}
+use Rattle.answers.proofs.Restated.{accepted-limits, accepted-order, accepted-fine, with-steps-reads, with-steps-tables, with-steps-same, with-steps-accepted}
 use Rattle.answers.proofs.Relations.{same-tables}
 use Rattle.columns.specs.Columns.{column}
 use Rattle.columns.specs.ColumnRefusals.{ColumnsIn, HasColumns, Executable}
@@ -100,7 +100,7 @@ word-few b d cs acc given w W =
 pub merged-has : (b d : List ℕ) (cs : List (List ℕ)) → Accepted b → ColumnsIn b d cs
     → (w : List ℕ) → IsWordOf (tables b) (λ j. getD cs j []) w
     → firstFault (tables b) (start (tables b)) 0 (map single w) ≡ none
-    → HasColumns b cs (sheetOf (front b) (componentCount b) (actionCount b) (map single w))
+    → HasColumns b cs (withSteps b (map single w))
 merged-has b d cs acc given w W fine =
     record {
       accepted = with-steps-accepted b limits xs small few (rw same-word (word-few b d cs acc given w W)) fine;

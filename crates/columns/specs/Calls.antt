@@ -7,7 +7,7 @@ use Prim.Native.Nat.{ℕ}
 use lib.ListN.{length}
 use Rattle.sheet.specs.Verdict.{Verdict, verdict, Accepted}
 use Rattle.answers.specs.declared.Answer.{Answer}
-use Rattle.answers.specs.Outcomes.{values, oneValue, outcomeOf}
+use Rattle.answers.specs.Outcomes.{refused, values, oneValue, outcomeOf}
 use Rattle.answers.specs.Restated.{restated}
 use Rattle.answers.specs.Restating.{restating, outputAfter}
 use Rattle.answers.specs.FirstRefusal.{Refusal, Numbered, TooShort, AfterSheet}
@@ -16,11 +16,11 @@ use Rattle.columns.specs.ColumnRefusals.{ColumnsIn, Legible, HasColumns,
 -- V3: for the sheet b and the columns in the bytes d, the answer and the output afterwards, by cases
 pub data ColumnsAnswer (b d out : List ℕ) (r : Answer) (after : List ℕ) : Type 0 where
   -- V4: the sheet itself is refused
-  sheet-refused : (k i : ℕ) → verdict b ≡ Verdict.refused k i → r ≡ Answer.Refused k i 0 → after ≡ out → ColumnsAnswer b d out r after
+  sheet-refused : (k i : ℕ) → verdict b ≡ Verdict.refused k i → outcomeOf r ≡ refused k i 0 → after ≡ out → ColumnsAnswer b d out r after
   -- R18: the bytes are no columns for its components
-  not-legible : Accepted b → (¬ Legible b d) → r ≡ Answer.Refused 18 0 0 → after ≡ out → ColumnsAnswer b d out r after
+  not-legible : Accepted b → (¬ Legible b d) → outcomeOf r ≡ refused 18 0 0 → after ≡ out → ColumnsAnswer b d out r after
   -- R19: no accepted sheet over its tables has the columns
-  not-executable : Accepted b → (cs : List (List ℕ)) → ColumnsIn b d cs → (¬ Executable b cs) → r ≡ Answer.Refused 19 0 0 → after ≡ out
+  not-executable : Accepted b → (cs : List (List ℕ)) → ColumnsIn b d cs → (¬ Executable b cs) → outcomeOf r ≡ refused 19 0 0 → after ≡ out
       → ColumnsAnswer b d out r after
   -- V3, R13: some sheet c has them: what restating c answers and writes
   as-restated : Accepted b → (cs : List (List ℕ)) → ColumnsIn b d cs → (c : List ℕ) → HasColumns b cs c

@@ -14,13 +14,17 @@ use Rattle.answers.specs.Related.{SameTables}
 use Rattle.columns.specs.Columns.{columns}
 use Rattle.columns.specs.ColumnBytes.{columnsBytes}
 
--- R18: what it asks: the bytes d are filled by the columns cs, one for each component of the sheet b; these hold at most 1,024 labels
--- together (L6), and each label is in the alphabet of its component
-pub record ColumnsIn (b d : List ℕ) (cs : List (List ℕ)) : Type 0 where
+-- R18: what it asks, of n components with these alphabets: the bytes d are filled by the columns cs, one for each component; these hold at
+-- most 1,024 labels together (L6), and each label is in the alphabet of its component
+pub record FilledBy (d : List ℕ) (n : ℕ) (alphabet : ℕ → ℕ) (cs : List (List ℕ)) : Type 0 where
   pub filled : d ≡ columnsBytes cs
-  pub one-each : length cs ≡ componentCount b
+  pub one-each : length cs ≡ n
   pub few : length (appendAll cs) ≤ mostInSteps
-  pub own : (j : ℕ) → j < componentCount b → (a : ℕ) → List·Memᴰ a (getD cs j []) → member (tables b .alphabet j) a ≡ true
+  pub own : (j : ℕ) → j < n → (a : ℕ) → List·Memᴰ a (getD cs j []) → member (alphabet j) a ≡ true
+
+-- R18: of the components of the sheet b
+abbrev pub ColumnsIn : List ℕ → List ℕ → List (List ℕ) → Type 0
+ColumnsIn b d cs = FilledBy d (componentCount b) (tables b .alphabet) cs
 
 -- R18 does not hold: the bytes d are filled by such columns
 abbrev pub Legible : List ℕ → List ℕ → Type 0

@@ -10,7 +10,7 @@ use Prim.Native.Nat.{ℕ, _<_, _≤_}
 use lib.ListN.{length, take, drop, getD}
 use Rattle.sets.specs.Lists.{appendAll}
 use Rattle.traces.specs.Words.{Dependence, Related}
-use Rattle.traces.specs.Projections.{Covers, SameProjections}
+use Rattle.traces.specs.Projections.{Covers, AllDependent, SameProjections}
 use Rattle.systems.specs.Tables.{WordOver}
 use Rattle.systems.specs.Running.{start}
 use Rattle.systems.specs.Checking.{Runs}
@@ -44,7 +44,7 @@ pub record ColumnsDemand : Type 0 where
   -- C1: the promise leaves nothing to choice
   pub answer-fixed : (b d out left kept : List ℕ) (r s : Answer) → ColumnsAnswer b d out r left → ColumnsAnswer b d out s kept
       → (r ≡ s) × (left ≡ kept)
-  -- R19: told exactly where no accepted sheet over these tables has these columns
+  -- R19: told exactly where no accepted sheet with the tables of b has the columns cs
   pub nineteen-exactly : (b d out left : List ℕ) (r : Answer) → ColumnsAnswer b d out r left → Accepted b
       → (cs : List (List ℕ)) → ColumnsIn b d cs → (r ≡ Answer.Refused 19 0 0) ↔ (¬ Executable b cs)
   -- R19: never because of a limit: where a list of actions has the columns and each is enabled when its turn comes, some accepted sheet has
@@ -94,9 +94,12 @@ pub record WrittenDemand : Type 1 where
   pub no-labels : (b d w : List ℕ) → ColumnsWrote b d w → (cs : List (List ℕ)) → ColumnsIn b d cs → ((j : ℕ) → getD cs j [] ≡ [])
       → steps w ≡ []
 
--- V5: what carries it, over any alphabets that cover a dependence: two words are related by swaps exactly when their projections to each
--- alphabet are the same
+-- V5: what carries it, for any dependence
 pub record ProjectionDemand : Type 0 where
+  -- over any alphabets that cover it: words whose projections to each alphabet are the same are related by swaps
   pub projections-tell : (dep : ℕ → ℕ → Bool) → Dependence dep → (count : ℕ) (has : ℕ → ℕ → Bool) (m : ℕ) → Covers dep count has m
       → (u v : List ℕ) → ((a : ℕ) → List·Memᴰ a u → a < m) → ((a : ℕ) → List·Memᴰ a v → a < m)
-      → SameProjections count has u v ↔ Related dep u v
+      → SameProjections count has u v → Related dep u v
+  -- over any alphabets of which none has two independent actions: no swap changes a projection
+  pub projections-kept : (dep : ℕ → ℕ → Bool) (count : ℕ) (has : ℕ → ℕ → Bool) → AllDependent dep count has → (u v : List ℕ)
+      → Related dep u v → SameProjections count has u v

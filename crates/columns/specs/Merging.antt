@@ -23,9 +23,13 @@ pub record IsWordOf (T : Tables) (rest : Rest) (w : List ℕ) : Type 0 where
   pub over : WordOver T w
   pub each : (j : ℕ) → j < T .components → column T w j ≡ rest j
 
+-- the action is the first label of what is left of column j
+abbrev pub HeadedBy : Rest → ℕ → ℕ → Type 0
+HeadedBy rest j a = (later : List ℕ) × (rest j ≡ a ∷ later)
+
 -- the action heads the column of each of its components
 abbrev pub Heads : Tables → Rest → ℕ → Type 0
-Heads T rest a = (j : ℕ) → j < T .components → member (T .alphabet j) a ≡ true → (later : List ℕ) × (rest j ≡ a ∷ later)
+Heads T rest a = (j : ℕ) → j < T .components → member (T .alphabet j) a ≡ true → HeadedBy rest j a
 
 -- what is left when the action is taken from the column of each of its components
 abbrev pub takenFrom : Tables → Rest → ℕ → Rest

@@ -35,11 +35,7 @@ pub fn check_both(first: &[u8], second: &[u8]) -> Answer
         return two;
     };
     if tables::differ(first, second, sizes, sizes2) {
-        return Answer::Refused {
-            number: 14,
-            index: 0,
-            sheet: 0,
-        };
+        return answers::refuse(14);
     }
     Answer::Accepted(sizes)
 }

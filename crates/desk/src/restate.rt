@@ -43,11 +43,7 @@ pub fn write_restated(
     let count = normal_form::pack(section, participants, &mut packed);
     let size = s + 8 * count + 10;
     if out.len() < size {
-        return Answer::Refused {
-            number: 13,
-            index: 0,
-            sheet: 0,
-        };
+        return answers::refuse(13);
     }
     writing::write_sheet(front, &packed, count, sizes.n as u8, sizes.m as u8, out);
     Answer::Given(size as u64)

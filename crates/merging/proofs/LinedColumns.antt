@@ -2,7 +2,8 @@
 -- each an action in which its component takes part.
 -- Assumes nothing.
 use mathlib.Core.Path.{_≡_, refl, sym, ap, _∙_, subst}
-use mathlib.Core.Bool.{Bool, true, false}
+use mathlib.Core.Logic.{inl, inr}
+use mathlib.Core.Bool.{true}
 use mathlib.Core.List.{List, [], _∷_, _++_, append-nil, List·Memᴰ, List·Memᴰ·not-nil}
 use Prim.Native.Nat.{ℕ, zero, suc, _+_, _-_, _<_, _≤_}
 use native.Mathlib.Decide.{decLt}
@@ -12,18 +13,22 @@ use lib.ListN.{length, getD, length-take, length-drop, length-append}
 use Rattle.sets.specs.Lists.{appendAll, below}
 use Rattle.sets.specs.Bits.{member}
 use Rattle.sets.proofs.Lists.{appendAll-append, list-below-at}
+use Rattle.sets.proofs.Filling.{map-below-last}
 use Rattle.sheet.specs.Bounds.{mostComponents, mostActions, mostSteps}
-use Rattle.sheet.specs.Layout.{tablesOf, tables}
+use Rattle.sheet.specs.Layout.{componentCount, tablesOf, tables}
 use Rattle.sheet.specs.Sections.{Alphabets}
 use Rattle.dependence.specs.participants.Participants.{participates, Participants, OfSixteen}
 use Rattle.dependence.proofs.participants.Entering.{participants-sixteen}
 use Rattle.answers.specs.declared.Sizes.{Sizes}
+use Rattle.answers.specs.declared.Answer.{Answer}
+use Rattle.answers.specs.declared.Answer.the-variants.{Accepted, Given, Refused}
+use Rattle.answers.proofs.Passing.{NotAccepted}
 use Rattle.answers.proofs.Restated.{accepted-limits, accepted-order}
-use Rattle.columns.specs.ColumnRefusals.{ColumnsIn, Legible}
+use Rattle.columns.specs.ColumnRefusals.{FilledBy, ColumnsIn, Legible}
+use Rattle.columns.proofs.ColumnBytes.{filled-over}
 use Rattle.desk.specs.AcceptedSheet.{AcceptedSheet}
-use Rattle.merging.specs.legible.Reading.{FilledBy, columnsAt, ColumnsRead}
-use Rattle.merging.specs.heads.Heads.{restIn, Lined, NoneBehind, leftBelow, labelsLeft}
-use Rattle.merging.proofs.legible.Arrays.{map-below-last}
+use Rattle.merging.specs.legible.Reading.{inArray, columnsAt, ColumnsStand, ColumnsRead, restIn, NoneBehind}
+use Rattle.merging.specs.heads.Heads.{Lined, leftBelow, labelsLeft}
 use Rattle.merging.proofs.heads.Lining.{part-none}
 
 -- ---- how many labels are left (L6)
@@ -69,31 +74,20 @@ left-all heads ends n few none =
 -- ---- by the alphabets of an accepted sheet
 
 module _ {b : List ℕ} {z : Sizes} {alphabets d : List ℕ} (k : AcceptedSheet b z) (A : Alphabets (tables b) (z .n) alphabets) where
-  -- R18: columns that fill the bytes are columns of the sheet
-  filled-in : (cs : List (List ℕ)) → FilledBy d (z .n) alphabets cs → ColumnsIn b d cs
-  filled-in cs f =
-      let same = k .sizes-read .n-read in
-      record {
-        filled = f .filled;
-        one-each = f .one-each ∙ same;
-        few = f .few;
-        own = λ j l a m. let h : j < z .n = omega arith in ap (λ (x : ℕ). member x a) (sym (A .each j h)) ∙ f .own j h a m;
-      }
+  -- R18: columns that fill the bytes by the array are columns of the sheet, and the other way round
+  filled-in : {cs : List (List ℕ)} → FilledBy d (z .n) (inArray alphabets) cs → ColumnsIn b d cs
+  filled-in f = filled-over (componentCount b) (tables b .alphabet) (k .sizes-read .n-read) (A .each) f
 
-  -- and the other way round
-  in-filled : (cs : List (List ℕ)) → ColumnsIn b d cs → FilledBy d (z .n) alphabets cs
-  in-filled cs f =
+  in-filled : {cs : List (List ℕ)} → ColumnsIn b d cs → FilledBy d (z .n) (inArray alphabets) cs
+  in-filled f =
       let same = k .sizes-read .n-read in
-      record {
-        filled = f .filled;
-        one-each = f .one-each ∙ sym same;
-        few = f .few;
-        own = λ j l a m. ap (λ (x : ℕ). member x a) (A .each j l) ∙ f .own j (omega arith) a m;
-      }
+      filled-over (z .n) (inArray alphabets) (sym same) (λ j l. sym (A .each j (omega arith))) f
 
-  -- R18: what the reader does not find is not there
-  pub not-legible : {heads ends : List ℕ} {found : Bool} → ColumnsRead d (z .n) alphabets heads ends found → found ≡ false → ¬ Legible b d
-  not-legible read e h = read .not-filled e (h .0) (in-filled (h .0) (h .1))
+  -- R18: what the reader refuses is 18, and no columns are there
+  pub not-legible : (heads ends : List ℕ) (r : Answer) → NotAccepted r → ColumnsRead d z alphabets heads ends r → (r ≡ Refused 18 0 0) × (¬ Legible b d)
+  not-legible heads ends (Accepted w) h read = elim h [ inl q ↦ absurd (omega arith) | inr q ↦ absurd (omega arith) ]
+  not-legible heads ends (Given x) h read = absurd read
+  not-legible heads ends (Refused k i s) h read = (read .0, λ l. read .1 (l .0) (in-filled (l .1)))
 
 -- ---- the columns that were read (R18)
 
@@ -102,31 +96,31 @@ pub record Found (b : List ℕ) (z : Sizes) (alphabets o d heads ends : List ℕ
   pub sheet : AcceptedSheet b z
   pub alphabets-told : Alphabets (tables b) (z .n) alphabets
   pub participants-told : Participants (tables b) o
-  pub read : ColumnsRead d (z .n) alphabets heads ends true
+  pub read : ColumnsStand d (z .n) alphabets heads ends
 
 -- R18: by what the reader answered
-pub found-by : {b : List ℕ} {z : Sizes} {alphabets o d heads ends : List ℕ} {found : Bool} → AcceptedSheet b z
-    → Alphabets (tables b) (z .n) alphabets → Participants (tables b) o → ColumnsRead d (z .n) alphabets heads ends found → found ≡ true
+pub found-by : {b : List ℕ} {z : Sizes} {alphabets o d heads ends : List ℕ} (r : Answer) (w : Sizes) → r ≡ Accepted w → AcceptedSheet b z
+    → Alphabets (tables b) (z .n) alphabets → Participants (tables b) o → ColumnsRead d z alphabets heads ends r
     → Found b z alphabets o d heads ends
-found-by {z = z} {alphabets = alphabets} {d = d} {heads = heads} {ends = ends} k A P read e =
+found-by {z = z} {alphabets = alphabets} {d = d} {heads = heads} {ends = ends} r w e k A P read =
     record {
       sheet = k;
       alphabets-told = A;
       participants-told = P;
-      read = subst (λ (t : Bool). ColumnsRead d (z .n) alphabets heads ends t) e read;
+      read = subst (ColumnsRead d z alphabets heads ends) e read .1;
     }
 
 module _ {b : List ℕ} {z : Sizes} {alphabets o d heads ends : List ℕ} (f : Found b z alphabets o d heads ends) where
   -- R18: the columns that were read fill the bytes
   pub columns-found : ColumnsIn b d (columnsAt d heads ends (z .n))
-  columns-found = filled-in (f .sheet) (f .alphabets-told) (columnsAt d heads ends (z .n)) (f .read .filled refl)
+  columns-found = filled-in (f .sheet) (f .alphabets-told) (f .read .filled)
 
   -- L6: they have few enough labels together to be steps
   pub few-left : labelsLeft heads ends ≤ mostSteps
   few-left =
-      let all = left-all heads ends (z .n) (f .sheet .sizes-read .n-high) (f .read .behind refl) in
-      let told = left-told d heads ends (f .read .inside refl) (z .n) in
-      let few = f .read .filled refl .few in
+      let all = left-all heads ends (z .n) (f .sheet .sizes-read .n-high) (f .read .behind) in
+      let told = left-told d heads ends (f .read .inside) (z .n) in
+      let few = f .read .filled .few in
       omega arith
 
   sixteen : OfSixteen o
@@ -142,7 +136,7 @@ module _ {b : List ℕ} {z : Sizes} {alphabets o d heads ends : List ℕ} (f : F
           let ok = accepted-order b (f .sheet .sheet-accepted) in
           let A = f .alphabets-told in
           let h : List·Memᴰ a (getD (columnsAt d heads ends (z .n)) j []) = rw (column-at d heads ends (z .n) j l) m in
-          let mine = ap (λ (x : ℕ). member x a) (sym (A .each j l)) ∙ f .read .filled refl .own j l a h in
+          let mine = ap (λ (x : ℕ). member x a) (sym (A .each j l)) ∙ f .read .filled .own j l a h in
           let low : j < tables b .components = let e = A .count in omega arith in
           let below = ok .action-below j low a mine in
           let most = ok .actions-fit in
@@ -151,7 +145,7 @@ module _ {b : List ℕ} {z : Sizes} {alphabets o d heads ends : List ℕ} (f : F
 
       behind : z .n ≤ j → (a < mostActions) × (participates o j a ≡ true)
       behind l =
-          let e = f .read .behind refl j l in
+          let e = f .read .behind j l in
           let none = part-none d (getD heads j 0) (getD ends j 0) (omega arith) in
           absurd (List·Memᴰ·not-nil (subst (λ (x : List ℕ). List·Memᴰ a x) none m))
 
@@ -162,7 +156,7 @@ module _ {b : List ℕ} {z : Sizes} {alphabets o d heads ends : List ℕ} (f : F
         sixteen = sixteen;
         heads-size = f .read .heads-size;
         ends-size = f .read .ends-size;
-        order = f .read .order refl;
-        inside = f .read .inside refl;
+        order = f .read .order;
+        inside = f .read .inside;
         own = own;
       }

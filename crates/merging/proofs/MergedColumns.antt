@@ -21,16 +21,17 @@ use Rattle.sheet.specs.Writing.{stepBytes}
 use Rattle.sheet.proofs.Numbers.{length-numbers, numbers-back}
 use Rattle.answers.specs.declared.Sizes.{Sizes}
 use Rattle.answers.specs.declared.Answer.{Answer}
-use Rattle.answers.proofs.Restated.{accepted-order, withSteps}
+use Rattle.answers.specs.Restated.{withSteps}
+use Rattle.answers.proofs.Restated.{accepted-order}
 use Rattle.columns.specs.ColumnRefusals.{HasColumns, Executable}
 use Rattle.columns.specs.Merging.{single, IsWordOf, Heads, Merged}
 use Rattle.columns.specs.Calls.{ColumnsAnswer}
 use Rattle.columns.proofs.Merging.{merged-all, merged-stuck}
 use Rattle.columns.proofs.Merged.{word-fits, singles-small, merged-has, merged-not, no-word-not}
-use Rattle.merging.specs.legible.Reading.{columnsAt}
-use Rattle.merging.specs.heads.Heads.{restIn, LeftOver}
+use Rattle.merging.specs.legible.Reading.{columnsAt, restIn}
+use Rattle.merging.specs.heads.Heads.{LeftOver}
 use Rattle.merging.specs.merge.Merging.{MergedInto}
-use Rattle.merging.specs.Words.{WordGiven, WordAnswer, sheetWith}
+use Rattle.merging.specs.Words.{WordGiven, WordAnswer}
 use Rattle.merging.proofs.heads.Lining.{part-none}
 use Rattle.merging.proofs.LinedColumns.{column-at, part-length, Found, columns-found}
 
@@ -138,10 +139,10 @@ module _ {b : List ℕ} {z : Sizes} {alphabets o d heads ends : List ℕ} (f : F
           ColumnsAnswer.not-executable (f .sheet .sheet-accepted) cs (columns-found f)
           (merged-not b cs (M .word) is-word (rw steps-told at fault)) told kept
       word-answered (WordAnswer.runs fine answer) =
-          ColumnsAnswer.as-restated (f .sheet .sheet-accepted) cs (columns-found f) (sheetWith b (take (8 * count) section′)) has
+          ColumnsAnswer.as-restated (f .sheet .sheet-accepted) cs (columns-found f) (withSteps b (stepsIn (take (8 * count) section′))) has
           (answer .answer-told) (answer .output-left)
         where
-          has : HasColumns b cs (sheetWith b (take (8 * count) section′))
+          has : HasColumns b cs (withSteps b (stepsIn (take (8 * count) section′)))
           has =
               subst (λ (xs : List ℕ). HasColumns b cs (withSteps b xs)) (sym steps-told)
               (merged-has b d cs (f .sheet .sheet-accepted) (columns-found f) (M .word) is-word (rw steps-told at fine))

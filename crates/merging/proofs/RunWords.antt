@@ -19,6 +19,7 @@ use Rattle.answers.specs.declared.Sizes.{Sizes}
 use Rattle.answers.specs.declared.Answer.{Answer}
 use Rattle.answers.specs.declared.Answer.the-variants.{Accepted as AcceptedAnswer}
 use Rattle.answers.specs.Outcomes.{given, outcomeOf, readOutcome}
+use Rattle.answers.specs.Restated.{withSteps}
 use Rattle.answers.specs.Related.{SameTables}
 use Rattle.answers.proofs.Passing.{NotAccepted, stopped-by, told-accepted}
 use Rattle.answers.proofs.Restated.{accepted-limits, accepted-order, with-steps-reads, with-steps-tables, with-steps-same, with-steps-accepted}
@@ -28,7 +29,7 @@ use Rattle.machine.specs.Runs.{RunFromStart}
 use Rattle.machine.proofs.Running.{tables-told}
 use Rattle.desk.specs.AcceptedSheet.{AcceptedSheet, SheetGiven}
 use Rattle.desk.proofs.Accepted.{accepted-sheet}
-use Rattle.merging.specs.Words.{WordGiven, sheetWith}
+use Rattle.merging.specs.Words.{WordGiven}
 
 -- S6, N4: two accepted sheets over the same tables have the same sizes
 same-sizes : (b c : List ℕ) (z : Sizes) → AcceptedSheet b z → SameTables b c → Accepted c → AcceptedSheet c z
@@ -99,7 +100,7 @@ module _ {b : List ℕ} {z : Sizes} {alphabets section : List ℕ} (g : WordGive
   flat-told = ap flat (g .section-told) ∙ flat-singles (g .word) fits
 
   -- R10 to R12: accepted where its steps have no fault
-  with-accepted : firstFault (tables b) (start (tables b)) 0 (stepsIn section) ≡ none → Accepted (sheetWith b section)
+  with-accepted : firstFault (tables b) (start (tables b)) 0 (stepsIn section) ≡ none → Accepted (withSteps b (stepsIn section))
   with-accepted = with-steps-accepted b limits (stepsIn section) small few together
     where
       few : length (stepsIn section) ≤ mostSteps
@@ -110,12 +111,13 @@ module _ {b : List ℕ} {z : Sizes} {alphabets section : List ℕ} (g : WordGive
 
   -- V3: its parts: those of b, and the section
   pub word-parts : firstFault (tables b) (start (tables b)) 0 (stepsIn section) ≡ none → {o : List ℕ}
-      → Participants (tablesOf (take (z .s) b) (z .n) (z .m)) o → SheetGiven (sheetWith b section) (take (z .s) b) section z o
+      → Participants (tablesOf (take (z .s) b) (z .n) (z .m)) o → SheetGiven (withSteps b (stepsIn section)) (take (z .s) b) section z o
   unfolding front
   word-parts fine p =
       let reads = with-steps-reads b limits (stepsIn section) small in
       record {
-        sheet = same-sizes b (sheetWith b section) z (g .sheet) (with-steps-same b limits (stepsIn section) small) (with-accepted fine);
+        sheet =
+            same-sizes b (withSteps b (stepsIn section)) z (g .sheet) (with-steps-same b limits (stepsIn section) small) (with-accepted fine);
         front-told = ap (λ (k : ℕ). take k b) (g .sheet .sizes-read .s-read) ∙ sym (reads .front-before);
         steps-told = sym (reads .same-steps);
         participants-told = rw (with-steps-tables b limits (stepsIn section) small) (rw (parts-tables (g .sheet)) at p);

@@ -1,4 +1,3 @@
-pub mod Arrays
 mod Counts
 mod Ends
 mod Reading

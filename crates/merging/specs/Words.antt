@@ -9,11 +9,12 @@ use Rattle.systems.specs.Tables.{WordOver}
 use Rattle.systems.specs.Running.{start}
 use Rattle.systems.specs.Checking.{firstFault}
 use Rattle.sheet.specs.Bounds.{stepSize, mostSteps, mostInSteps}
-use Rattle.sheet.specs.Layout.{componentCount, actionCount, front, tables}
+use Rattle.sheet.specs.Layout.{tables}
 use Rattle.sheet.specs.Sections.{stepsIn, Alphabets}
-use Rattle.sheet.specs.Writing.{sheetOf}
 use Rattle.answers.specs.declared.Sizes.{Sizes}
 use Rattle.answers.specs.declared.Answer.{Answer}
+use Rattle.answers.specs.Outcomes.{refused, outcomeOf}
+use Rattle.answers.specs.Restated.{withSteps}
 use Rattle.desk.specs.AcceptedSheet.{AcceptedSheet}
 use Rattle.desk.specs.Calls.{RestateAnswer}
 use Rattle.columns.specs.Merging.{single}
@@ -28,15 +29,11 @@ pub record WordGiven (b : List ℕ) (z : Sizes) (alphabets section : List ℕ) :
   pub section-told : stepsIn section ≡ map single word
   pub section-room : length section ≤ stepSize * mostSteps
 
--- the sheet with the tables of b and the steps of the section (S2, N9)
-abbrev pub sheetWith : List ℕ → List ℕ → List ℕ
-sheetWith b section = sheetOf (front b) (componentCount b) (actionCount b) (stepsIn section)
-
 -- R19, V3: 19 where the section has a fault, and the output as it came; else what restating the sheet with the section answers and writes
 pub data WordAnswer (b section out : List ℕ) (r : Answer) (after : List ℕ) : Type 0 where
   -- R19: a step cannot be executed
-  faulty : (¬ (firstFault (tables b) (start (tables b)) 0 (stepsIn section) ≡ none)) → r ≡ Answer.Refused 19 0 0 → after ≡ out
+  faulty : (¬ (firstFault (tables b) (start (tables b)) 0 (stepsIn section) ≡ none)) → outcomeOf r ≡ refused 19 0 0 → after ≡ out
       → WordAnswer b section out r after
   -- V3, R13
-  runs : firstFault (tables b) (start (tables b)) 0 (stepsIn section) ≡ none → RestateAnswer (sheetWith b section) out r after
+  runs : firstFault (tables b) (start (tables b)) 0 (stepsIn section) ≡ none → RestateAnswer (withSteps b (stepsIn section)) out r after
       → WordAnswer b section out r after

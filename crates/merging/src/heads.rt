@@ -7,7 +7,8 @@ ghost use Prim.Native.Nat.{_<_, _≤_};
 ghost use lib.ListN.{length, replicate};
 ghost use Rattle.sets.specs.Bits.{member, with};
 ghost use Rattle.sheet.specs.Bounds.{mostComponents, mostActions};
-ghost use Rattle.merging.specs.heads.Heads.{restIn, FirstBelow, ShowsFirst, Lined, Shown, Everywhere, ActionTaken, ReadyTaken, NoneBehind, LeftOver};
+ghost use Rattle.merging.specs.legible.Reading.{restIn, NoneBehind};
+ghost use Rattle.merging.specs.heads.Heads.{FirstBelow, ShowsFirst, Lined, Shown, Everywhere, ActionTaken, ReadyTaken, LeftOver};
 
 // Component j shows the first label of what is left of its column, where there is one: it waits for that action. Gives back the ready
 // actions, with this one where all of its components now wait for it.

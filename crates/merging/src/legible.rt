@@ -7,6 +7,8 @@ ghost use lib.ListN.{length, replicate};
 ghost use Rattle.sets.specs.Bits.{member};
 ghost use Rattle.sheet.specs.Bounds.{mostComponents};
 ghost use Rattle.merging.specs.legible.Reading.{LabelsOwn, ColumnFound, ColumnsRead};
+use answers::Answer;
+use answers::Sizes;
 
 // Whether the alphabet has the action with this label.
 fn in_alphabet(alphabet: u64, label: u8) -> bool
@@ -53,30 +55,35 @@ fn column_end(columns: &[u8], at: usize, alphabet: u64) -> usize
     end
 }
 
-// Whether n columns, by their alphabets, fill the bytes and have few enough labels. Then `heads` and `ends`, which come with zeros, have
-// where the labels of each column begin and end.
+// 18, or the sizes of the sheet that the bytes are columns for: one for each of its components, by their alphabets, with few enough labels
+// together. Then `heads` and `ends`, which come with zeros, have where the labels of each column begin and end.
 pub fn read_columns(
     columns: &[u8],
-    n: usize,
+    sizes: Sizes,
     alphabets: &[u64],
     heads: &mut [usize],
     ends: &mut [usize],
-) -> bool
-    requires { ⌜ (n ≤ mostComponents) × (length (now alphabets) ≡ mostComponents)
+) -> Answer
+    requires { ⌜ (sizes .n ≤ mostComponents) × (length (now alphabets) ≡ mostComponents)
         × (now heads ≡ replicate mostComponents 0) × (now ends ≡ replicate mostComponents 0) ⌝ }
-    ensures { λ r. ⌜ ColumnsRead (now (columns .entry)) n (now (alphabets .entry)) (now (heads .exit)) (now (ends .exit)) r ⌝ }
+    ensures { λ r. ⌜ ColumnsRead (now (columns .entry)) sizes (now (alphabets .entry)) (now (heads .exit)) (now (ends .exit)) r ⌝ }
 {
+    let n = sizes.n;
     let mut at = 0;
     let mut j = 0;
     while j < n {
         let end = column_end(columns, at, alphabets[j]);
         if end == 0 {
-            return false;
+            return answers::refuse(18);
         }
         heads[j] = at + 2;
         ends[j] = end;
         at = end;
         j += 1;
     }
-    (at == columns.len()) & (at <= 2 * n + 1024)
+    // Each column has two bytes for its count, and a byte for each label.
+    if (at != columns.len()) | (2 * n + 1024 < at) {
+        return answers::refuse(18);
+    }
+    Answer::Accepted(sizes)
 }

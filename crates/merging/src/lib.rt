@@ -3,8 +3,6 @@ mod heads;
 mod legible;
 mod merge;
 
-ghost use mathlib.Core.Path.{_≡_};
-ghost use Rattle.answers.specs.declared.Answer.the-variants.{Refused};
 ghost use Rattle.desk.specs.AcceptedSheet.{AcceptedSheet};
 ghost use Rattle.desk.specs.Left.{ParticipantsLeft};
 ghost use Rattle.columns.specs.Calls.{ColumnsAnswer};
@@ -15,19 +13,8 @@ use desk::alphabets;
 use desk::restate;
 use desk::verdict;
 
-// The refusal with this number.
-fn refuse(number: u64) -> Answer
-    ensures { λ r. ⌜ r ≡ Refused number 0 0 ⌝ }
-{
-    Answer::Refused {
-        number,
-        index: 0,
-        sheet: 0,
-    }
-}
-
 // 19 where the actions of the section, each a step of its own, cannot be executed over the tables of an accepted sheet; else the sheet with
-// these steps is restated into the output.
+// these steps is restated into the output, or 13 where it does not fit.
 fn restate_word(
     sheet: &[u8],
     sizes: Sizes,
@@ -50,12 +37,12 @@ fn restate_word(
         &mut held,
     );
     let Answer::Accepted(_) = run else {
-        return refuse(19);
+        return answers::refuse(19);
     };
     restate::write_restated(&sheet[..s], section, sizes, &participants, out)
 }
 
-// 18 and 19 of the columns for an accepted sheet, or the restated sheet that has them.
+// 18, 19 and 13 of the columns for an accepted sheet, or the restated sheet that has them.
 fn merge_columns(
     sheet: &[u8],
     sizes: Sizes,
@@ -71,13 +58,14 @@ fn merge_columns(
     alphabets::alphabets_of(sheet, sizes, &mut alphabets);
     let mut heads = [0usize; 16];
     let mut ends = [0usize; 16];
-    if !legible::read_columns(columns, n, &alphabets, &mut heads, &mut ends) {
-        return refuse(18);
-    }
+    let read = legible::read_columns(columns, sizes, &alphabets, &mut heads, &mut ends);
+    let Answer::Accepted(_) = read else {
+        return read;
+    };
     let mut section = [0u8; 8192];
     let count = merge::merge(columns, n, participants, &mut heads, &ends, &mut section);
     if heads::some_left(&heads, &ends, n) {
-        return refuse(19);
+        return answers::refuse(19);
     }
     restate_word(sheet, sizes, &alphabets, &section[..8 * count], out)
 }

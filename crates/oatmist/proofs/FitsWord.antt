@@ -135,9 +135,9 @@ fits-rows b size =
     (fits-text oneValue (productSheet (productOf b)) size)))
 
 -- an answer that refuses by a small number, at a step of a sheet (O4)
-fits-refused : (r : Answer) (k i : ℕ) → 1 ≤ k → k < 256 → i ≤ longest → r ≡ Answer.Refused k i 0 → FitsWord (outcomeOf r)
+fits-refused : (r : Answer) (k i : ℕ) → 1 ≤ k → k < 256 → i ≤ longest → outcomeOf r ≡ Outcome.refused k i 0 → FitsWord (outcomeOf r)
 fits-refused r k i low small below e =
-    subst (λ (a : Answer). FitsWord (outcomeOf a)) (sym e) (low, small, omega arith, omega arith)
+    subst FitsWord (sym e) (low, small, omega arith, omega arith)
 
 -- 18 and 19 are told with the step index 0 and the sheet 0 (O4, O9)
 pub fits-columns : (b d out : List ℕ) (r : Answer) (left : List ℕ) → ColumnsAnswer b d out r left → FitsWord (outcomeOf r)

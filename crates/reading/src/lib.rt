@@ -11,7 +11,7 @@ ghost use Rattle.sheet.specs.Bounds.{recordSize, stepSize, trailerSize, mostCom
 ghost use Rattle.sheet.specs.Layout.{tablesOf};
 ghost use Rattle.sheet.specs.Verdict.{accepted, trailerVerdict, tablesVerdict};
 ghost use Rattle.sheet.specs.Sections.{stepsIn, Alphabets};
-ghost use Rattle.answers.specs.declared.Answer.the-variants.{Accepted, Refused};
+ghost use Rattle.answers.specs.declared.Answer.the-variants.{Accepted};
 ghost use Rattle.answers.specs.Outcomes.{outcomeOf, readOutcome};
 ghost use Rattle.reading.specs.Reading.{TrailerPassed, upToTrailer};
 use answers::Answer;
@@ -31,32 +31,21 @@ fn sizes(sheet: &[u8]) -> Answer
     })
 }
 
-// The refusal with this number, one of 1 to 9.
-fn refuse(number: u64) -> Answer
-    ensures { λ r. ⌜ r ≡ Refused number 0 0 ⌝ }
-{
-    Answer::Refused {
-        number,
-        index: 0,
-        sheet: 0,
-    }
-}
-
 // Refusals 1 to 4: the first that holds, or the sizes.
 pub fn read_trailer(sheet: &[u8]) -> Answer
     ensures { λ r. ⌜ outcomeOf r ≡ readOutcome (now (sheet .entry)) (trailerVerdict (now (sheet .entry)) accepted) ⌝ }
 {
     if trailer::length_wrong(sheet) {
-        return refuse(1);
+        return answers::refuse(1);
     }
     if trailer::mark_wrong(sheet) {
-        return refuse(2);
+        return answers::refuse(2);
     }
     if trailer::counts_wrong(sheet) {
-        return refuse(3);
+        return answers::refuse(3);
     }
     if trailer::offsets_wrong(sheet) {
-        return refuse(4);
+        return answers::refuse(4);
     }
     sizes(sheet)
 }
@@ -108,20 +97,20 @@ pub fn read_tables(sheet: &[u8], sizes: Sizes, found: &mut [u64]) -> Answer
     let records = &sheet[0..t];
     let section = &sheet[t..s];
     if records::records_wrong(records, n, sizes.m as u64) {
-        return refuse(5);
+        return answers::refuse(5);
     }
     alphabets(records, n, found);
     if records::action_unused(found, n, sizes.m as u32) {
-        return refuse(6);
+        return answers::refuse(6);
     }
     if transitions::transitions_wrong(section, records, found, n) {
-        return refuse(7);
+        return answers::refuse(7);
     }
     if transitions::order_wrong(section) {
-        return refuse(8);
+        return answers::refuse(8);
     }
     if 1024 < actions_in(step_section(sheet, s)) {
-        return refuse(9);
+        return answers::refuse(9);
     }
     Answer::Accepted(sizes)
 }

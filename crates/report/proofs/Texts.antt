@@ -211,8 +211,8 @@ module _ (b : List ℕ) {x text : List ℕ} {size : ℕ} (W : TextAt (report b) 
   text-told = W .written
 
   -- the text as it was made is the report
-  pub too-short : (out : List ℕ) → length out < size → ReportAnswer b out (Answer.Refused 13 0 0) out
-  too-short out h = let e = size-told in printed-short b out (omega arith)
+  pub too-short : (out : List ℕ) → length out < size → (r : Answer) → r ≡ Answer.Refused 13 0 0 → ReportAnswer b out r out
+  too-short out h r told = let e = size-told in rw told (printed-short b out (omega arith))
 
   pub copied : (out after : List ℕ) → size ≤ length out → after ≡ over (take size text) out → ReportAnswer b out (Answer.Given size) after
   copied out after h q =

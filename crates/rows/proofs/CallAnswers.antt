@@ -49,10 +49,11 @@ module _ (b begins alphabets : List ℕ) (z : Sizes) (R : ReadProduct b begins a
   past-refusals size = rw (R .well-formed, R .no-bad-row, R .no-idle-component)
 
   -- R13: the sheet does not fit
-  pub rows-short : (out : List ℕ) → length out < z .s + trailerSize → RowsAnswer b out (Refused 13 0 0) out
-  rows-short out h =
-      refused-right b out 13 0 0
-      (past-refusals (length out) ∙ fitting-short (productSheet (productOf b)) (length out) (let e = sheet-length in omega arith))
+  pub rows-short : (out : List ℕ) → length out < z .s + trailerSize → (r : Answer) → r ≡ Refused 13 0 0 → RowsAnswer b out r out
+  rows-short out h r e =
+      rw e
+      (refused-right b out 13 0 0
+      (past-refusals (length out) ∙ fitting-short (productSheet (productOf b)) (length out) (let e = sheet-length in omega arith)))
 
   -- B6: it does, and is written
   pub rows-written : (out after : List ℕ) → z .s + trailerSize ≤ length out → after ≡ over (productSheet (productOf b)) out

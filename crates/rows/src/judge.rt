@@ -5,7 +5,6 @@ ghost use mathlib.Core.Bool.{false};
 ghost use Prim.Native.Nat.{_*_, _≤_};
 ghost use lib.ListN.{length};
 ghost use Rattle.sheet.specs.Bounds.{mostComponents, mostActions};
-ghost use Rattle.answers.specs.declared.Answer.the-variants.{Refused};
 ghost use Rattle.products.specs.ProductBytes.{componentsIn, rowsIn};
 ghost use Rattle.products.specs.ProductVerdict.{malformed};
 ghost use Rattle.rows.specs.judge.Judging.{CountsFit, Looked, UnionOf, rowUnused, someEmpty, elementsOf, sizesBy, RowsJudged, Judged};
@@ -99,17 +98,6 @@ fn elements_of(alphabets: &[u64], n: usize) -> usize
     sum
 }
 
-// The refusal with this number.
-fn refuse(number: u64) -> Answer
-    ensures { λ r. ⌜ r ≡ Refused number 0 0 ⌝ }
-{
-    Answer::Refused {
-        number,
-        index: 0,
-        sheet: 0,
-    }
-}
-
 // The sizes of the sheet with n components and m actions, by their alphabets.
 fn sizes_by(alphabets: &[u64], n: usize, m: usize) -> Sizes
     requires { ⌜ (n ≤ length (now alphabets)) × (n ≤ mostComponents) ⌝ }
@@ -131,10 +119,10 @@ fn judge_rows(product: &[u8], n: usize, m: usize, alphabets: &mut [u64]) -> Answ
 {
     entries::fill_alphabets(product, n, m, alphabets);
     if row_unused(alphabets, n, m) | repeats::row_repeated(product, n, m) {
-        return refuse(16);
+        return answers::refuse(16);
     }
     if some_empty(alphabets, n) {
-        return refuse(17);
+        return answers::refuse(17);
     }
     Answer::Accepted(sizes_by(alphabets, n, m))
 }
@@ -146,7 +134,7 @@ pub fn read_product(product: &[u8], begins: &mut [u64], alphabets: &mut [u64]) -
     ensures { λ r. ⌜ Judged (now (product .entry)) (now (begins .exit)) (now (alphabets .exit)) r ⌝ }
 {
     if malformed(product, begins) {
-        return refuse(15);
+        return answers::refuse(15);
     }
     let n = numbers::wide(product[0]) as usize;
     let m = numbers::wide(product[1]) as usize;

@@ -21,11 +21,7 @@ pub fn rows(product: &[u8], out: &mut [u8]) -> Answer
     };
     let size = sizes.s + 10;
     if out.len() < size {
-        return Answer::Refused {
-            number: 13,
-            index: 0,
-            sheet: 0,
-        };
+        return answers::refuse(13);
     }
     table::write_product(product, sizes, &begins, &alphabets, out);
     Answer::Given(size as u64)

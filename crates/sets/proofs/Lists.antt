@@ -4,15 +4,15 @@
 use mathlib.Core.Path.{_≡_, refl, sym, ap, ap₂, _∙_, subst}
 use mathlib.Core.Bool.{Bool, true, false, _||_, false≢true, or-assoc}
 use mathlib.Core.Logic.{_↔_, _⊎_, inl, inr, ⊎-elim}
-use mathlib.Core.List.{List, [], _∷_, _++_, map, append-assoc, List·Memᴰ, List·Memᴰ·head, List·Memᴰ·tail, List·Memᴰ·not-nil, List·Memᴰ·cases-cons, List·Memᴰ·append-cases, Memᴰ·append-left, Memᴰ·append-right}
+use mathlib.Core.List.{List, [], _∷_, _++_, map, map-id, append-assoc, List·Memᴰ, List·Memᴰ·head, List·Memᴰ·tail, List·Memᴰ·not-nil, List·Memᴰ·cases-cons, List·Memᴰ·append-cases, Memᴰ·append-left, Memᴰ·append-right}
 use Prim.Native.Nat.{ℕ, zero, suc, _+_, _-_, _*_, _≤_, _<_, zero-le}
-use native.Mathlib.Nat.{lt-irrefl, le-antisymm, eq-or-lt-of-le, zero-add, suc-add, add-comm, mul-suc, add-sub-of-le}
+use native.Mathlib.Nat.{lt-irrefl, le-antisymm, eq-or-lt-of-le, zero-add, add-zero, suc-add, add-suc, add-comm, mul-suc, add-sub-of-le}
 use native.Mathlib.Numerals.{add-one}
 use native.Mathlib.Decide.{decLt}
 use native.Mathlib.Omega.{arith}
-use lib.ListN.{length, take, drop, getD, length-append, drop-of-length-le}
+use lib.ListN.{length, take, drop, getD, replicate, length-append, drop-of-length-le}
 use lib.Seq.{take-nil, take-append-seam, drop-append-seam, drop-cons, getD-take, length-take-le}
-use Rattle.sets.specs.Lists.{anyOf, allOf, appendAll, over, Distinct, upward, below, RisingAbove, Rising}
+use Rattle.sets.specs.Lists.{anyOf, allOf, appendAll, keep, over, Distinct, upward, below, RisingAbove, Rising}
 use Rattle.sets.proofs.Bools.{not-both, iff-bool, false-iff, and-true, or-true, or-left-comm}
 
 module _ {ℓ} {A : Type ℓ} where
@@ -86,16 +86,70 @@ module _ {ℓ} {A : Type ℓ} where
   pub mem-appendAll : (ls : List (List A)) {x : A} → List·Memᴰ x (appendAll ls) ↔ ((l : List A) × List·Memᴰ l ls × List·Memᴰ x l)
   mem-appendAll ls = (from-appendAll ls, λ h. into-appendAll ls (h .1) (h .2))
 
-  -- ---- elements by index, and a function that changes none
+  -- one list of some is no longer than all of them joined
+  pub entry-short : (ls : List (List A)) (j : ℕ) → length (getD ls j []) ≤ length (appendAll ls)
+  entry-short [] j = omega arith
+  entry-short (l ∷ ls) zero = omega (arith, length-append l (appendAll ls))
+  entry-short (l ∷ ls) (suc j) = let h = entry-short ls j in omega (arith, length-append l (appendAll ls))
+
+  -- ---- an element before a list where the test passes
+
+  pub keep-true : (b : Bool) (x : A) (l : List A) → b ≡ true → keep b x l ≡ x ∷ l
+  keep-true true x l h = refl
+  keep-true false x l h = absurd (false≢true h)
+
+  pub keep-false : (b : Bool) (x : A) (l : List A) → b ≡ false → keep b x l ≡ l
+  keep-false true x l h = absurd (false≢true (sym h))
+  keep-false false x l h = refl
+
+  pub keep-append : (b : Bool) (x : A) (k l : List A) → keep b x (k ++ l) ≡ keep b x k ++ l
+  keep-append true x k l = refl
+  keep-append false x k l = refl
+
+  -- its elements: the one before the list where the test passes, and those of the list
+  pub from-keep : (b : Bool) (x : A) (l : List A) {y : A} → List·Memᴰ y (keep b x l) → ((b ≡ true) × (y ≡ x)) ⊎ List·Memᴰ y l
+  from-keep true x l (List·Memᴰ·head e) = inl (refl, e)
+  from-keep true x l (List·Memᴰ·tail m) = inr m
+  from-keep false x l m = inr m
+
+  pub keep-head : (b : Bool) (x : A) (l : List A) {y : A} → b ≡ true → y ≡ x → List·Memᴰ y (keep b x l)
+  keep-head true x l h e = List·Memᴰ·head e
+  keep-head false x l h e = absurd (false≢true h)
+
+  pub keep-tail : (b : Bool) (x : A) (l : List A) {y : A} → List·Memᴰ y l → List·Memᴰ y (keep b x l)
+  keep-tail true x l m = List·Memᴰ·tail m
+  keep-tail false x l m = m
+
+  -- ---- elements by index, and functions that agree on the elements
 
   pub getD-mem : (l : List A) (i : ℕ) (d : A) → i < length l → List·Memᴰ (getD l i d) l
   getD-mem [] i d h = absurd (omega arith)
   getD-mem (x ∷ l) zero d h = List·Memᴰ·head refl
   getD-mem (x ∷ l) (suc i) d h = List·Memᴰ·tail (getD-mem l i d (omega arith))
 
+  -- what holds of each entry holds of each element, and the other way
+  from-entries : (P : A → Type ℓ) (l : List A) (d : A) → ((i : ℕ) → i < length l → P (getD l i d)) → (x : A) → List·Memᴰ x l → P x
+  from-entries P (y ∷ l) d h x (List·Memᴰ·head e) = subst P (sym e) (h 0 (omega arith))
+  from-entries P (y ∷ l) d h x (List·Memᴰ·tail m) = from-entries P l d (λ i b. h (suc i) (omega arith)) x m
+
+  pub each-element : (P : A → Type ℓ) (l : List A) (d : A)
+      → ((i : ℕ) → i < length l → P (getD l i d)) ↔ ((x : A) → List·Memᴰ x l → P x)
+  each-element P l d = (from-entries P l d, λ h i b. h (getD l i d) (getD-mem l i d b))
+
+  -- a value repeated, read with the same value for what is behind the end: it stands at every index
+  pub replicate-at : (n : ℕ) (x : A) (i : ℕ) → getD (replicate n x) i x ≡ x
+  replicate-at zero x i = refl
+  replicate-at (suc n) x zero = refl
+  replicate-at (suc n) x (suc i) = replicate-at n x i
+
+  pub map-agree : {B : Type ℓ} (f g : A → B) (l : List A) → ((x : A) → List·Memᴰ x l → f x ≡ g x) → map f l ≡ map g l
+  map-agree f g [] h = refl
+  map-agree {B} f g (x ∷ l) h =
+      ap₂ (λ (y : B) (r : List B). y ∷ r) (h x (List·Memᴰ·head refl)) (map-agree f g l (λ y m. h y (List·Memᴰ·tail m)))
+
+  -- a function that changes no element
   pub map-same : (f : A → A) (l : List A) → ((x : A) → List·Memᴰ x l → f x ≡ x) → map f l ≡ l
-  map-same f [] h = refl
-  map-same f (x ∷ l) h = ap₂ (λ (y : A) (r : List A). y ∷ r) (h x (List·Memᴰ·head refl)) (map-same f l (λ y m. h y (List·Memᴰ·tail m)))
+  map-same f l h = map-agree f (λ x. x) l h ∙ map-id l
 
   -- ---- a part of a list, and a list written over the front of another
 
@@ -153,6 +207,17 @@ mem-upward i k j = (from-upward i k j, λ h. into-upward i k j (h .0) (h .1))
 pub mem-below : (n i : ℕ) → List·Memᴰ i (below n) ↔ (i < n)
 unfolding below
 mem-below n i = (λ m. let h = mem-upward 0 n i .0 m in omega arith, λ h. mem-upward 0 n i .1 (zero-le, omega arith))
+
+-- one number more
+upward-last : (i k : ℕ) → upward i (suc k) ≡ upward i k ++ ((i + k) ∷ [])
+unfolding upward
+upward-last i zero = ap (λ (x : ℕ). x ∷ []) (sym (add-zero i))
+upward-last i (suc k) =
+    ap (λ (l : List ℕ). i ∷ l) (upward-last (suc i) k ∙ ap (λ (x : ℕ). upward (suc i) k ++ (x ∷ [])) (suc-add i k ∙ sym (add-suc i k)))
+
+pub below-last : (n : ℕ) → below (n + 1) ≡ below n ++ (n ∷ [])
+unfolding below
+below-last n = ap (upward 0) (add-one n) ∙ upward-last 0 n ∙ ap (λ (x : ℕ). upward 0 n ++ (x ∷ [])) (zero-add n)
 
 -- what is left of the numbers below n from j on
 pub below-all : (n : ℕ) → below n ≡ upward 0 (n - 0)

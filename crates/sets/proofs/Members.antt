@@ -2,7 +2,7 @@
 -- The number of bits is free: only `members`, and what is said of it, has 64.
 -- Assumes nothing.
 use mathlib.Core.Path.{_≡_, refl, sym, ap, _∙_, subst}
-use mathlib.Core.Bool.{Bool, true, false, not, _&&_, _||_, false≢true, or-assoc}
+use mathlib.Core.Bool.{Bool, true, false, not, _&&_, _||_, or-assoc}
 use mathlib.Core.Logic.{_↔_, _≢_, _⊎_, inl, inr}
 use mathlib.Core.List.{List, [], _∷_, List·Memᴰ, List·Memᴰ·head, List·Memᴰ·tail, List·Memᴰ·not-nil}
 use Prim.Native.Nat.{ℕ, zero, suc, _+_, _-_, _*_, _/_, _%_, _^_, _≤_, _<_, zero-le, min, max}
@@ -18,7 +18,7 @@ use lib.ListN.{length}
 use Rattle.sets.specs.Lists.{anyOf, keep, Distinct, below, RisingAbove, Rising}
 use Rattle.sets.specs.Bits.{member, membersFrom, members, with, setOf}
 use Rattle.sets.proofs.Bools.{true-or-false, not-both, iff-bool, not-true, not-false, and-true, or-true, eqb-true, eqb-false}
-use Rattle.sets.proofs.Lists.{above-rising, rising-distinct, rising-same, some-below, none-below}
+use Rattle.sets.proofs.Lists.{from-keep, keep-head, keep-tail, above-rising, rising-distinct, rising-same, some-below, none-below}
 
 -- ---- bit by bit: the lowest bit, and the bits of the half
 
@@ -150,19 +150,6 @@ lt-members (suc n) x h =
     omega arith
 
 -- ---- the elements, as a rising list
-
-from-keep : (b : Bool) (i : ℕ) (l : List ℕ) {j : ℕ} → List·Memᴰ j (keep b i l) → ((b ≡ true) × (j ≡ i)) ⊎ List·Memᴰ j l
-from-keep true i l (List·Memᴰ·head e) = inl (refl, e)
-from-keep true i l (List·Memᴰ·tail m) = inr m
-from-keep false i l m = inr m
-
-keep-head : (b : Bool) (i : ℕ) (l : List ℕ) {j : ℕ} → b ≡ true → j ≡ i → List·Memᴰ j (keep b i l)
-keep-head true i l h e = List·Memᴰ·head e
-keep-head false i l h e = absurd (false≢true h)
-
-keep-tail : (b : Bool) (i : ℕ) (l : List ℕ) {j : ℕ} → List·Memᴰ j l → List·Memᴰ j (keep b i l)
-keep-tail true i l m = List·Memᴰ·tail m
-keep-tail false i l m = m
 
 from-members : (i k x j : ℕ) → List·Memᴰ j (membersFrom i k x) → (i ≤ j) × (j < i + k) × (member x j ≡ true)
 unfolding membersFrom

@@ -3,36 +3,25 @@
 -- Assumes nothing.
 use mathlib.Core.Path.{_≡_, refl, sym, _∙_, ap, ap₂}
 use mathlib.Core.Logic.{_↔_, _⊎_, inl, inr, _≢_}
-use mathlib.Core.Bool.{Bool, true, false, cond, _&&_, and-comm, false≢true}
+use mathlib.Core.Bool.{Bool, true, false, cond, _&&_, and-comm}
 use mathlib.Core.List.{List, [], _∷_, _++_, List·Memᴰ, List·Memᴰ·head, List·Memᴰ·tail, List·Memᴰ·not-nil, List·Memᴰ·cases-cons}
 use Prim.Native.Nat.{ℕ, _<_}
 use native.Mathlib.Omega.{arith}
 use lib.Dec.{eqb}
 use Rattle.sets.specs.Lists.{keep}
 use Rattle.sets.proofs.Bools.{true-or-false, not-both, eqb-true, eqb-false, false-iff}
+use Rattle.sets.proofs.Lists.{keep-true, keep-false, keep-append, keep-tail}
 use Rattle.traces.specs.Words.{Dependence, Swap, here, later, Related, unchanged, swap}
-use Rattle.traces.specs.Projections.{projection, Covers, SameProjections}
+use Rattle.traces.specs.Projections.{projection, Covers, AllDependent, SameProjections}
 use Rattle.traces.proofs.Swaps.{related-trans, related-sym, related-later}
 
--- ---- one action before a word
-
-kept : (b : Bool) (a : ℕ) (w : List ℕ) → b ≡ true → keep b a w ≡ a ∷ w
-kept true a w h = refl
-kept false a w h = absurd (false≢true h)
-
-dropped : (b : Bool) (a : ℕ) (w : List ℕ) → b ≡ false → keep b a w ≡ w
-dropped true a w h = absurd (false≢true (sym h))
-dropped false a w h = refl
+-- ---- a word that begins with an action
 
 nil-cons : {a : ℕ} {w : List ℕ} → [] ≡ a ∷ w → ⊥
 nil-cons e = let z : _≡_ {A = ℕ} 0 1 = cc in omega arith
 
 heads : {a b : ℕ} {u v : List ℕ} → a ∷ u ≡ b ∷ v → (a ≡ b) × (u ≡ v)
 heads e = (cc, cc)
-
-keep-append : (b : Bool) (a : ℕ) (u v : List ℕ) → keep b a (u ++ v) ≡ keep b a u ++ v
-keep-append true a u v = refl
-keep-append false a u v = refl
 
 -- ---- what a projection has, and how it is put together (V1)
 
@@ -52,15 +41,11 @@ from-projection p (b ∷ w) {a} m = go (from-projection p w) (true-or-false (p b
 
     go : (List·Memᴰ a (projection p w) → List·Memᴰ a w × (p a ≡ true)) → (p b ≡ true) ⊎ (p b ≡ false)
         → List·Memᴰ a (b ∷ w) × (p a ≡ true)
-    go rest (inl h) = first h rest (List·Memᴰ·cases-cons (rw (kept (p b) b (projection p w) h) at m))
-    go rest (inr h) = let r = rest (rw (dropped (p b) b (projection p w) h) at m) in (List·Memᴰ·tail (r .0), r .1)
-
-keep-tail : (b : Bool) (c : ℕ) (w : List ℕ) {a : ℕ} → List·Memᴰ a w → List·Memᴰ a (keep b c w)
-keep-tail true c w m = List·Memᴰ·tail m
-keep-tail false c w m = m
+    go rest (inl h) = first h rest (List·Memᴰ·cases-cons (rw (keep-true (p b) b (projection p w) h) at m))
+    go rest (inr h) = let r = rest (rw (keep-false (p b) b (projection p w) h) at m) in (List·Memᴰ·tail (r .0), r .1)
 
 into-projection : (p : ℕ → Bool) (w : List ℕ) {a : ℕ} → List·Memᴰ a w → p a ≡ true → List·Memᴰ a (projection p w)
-into-projection p (b ∷ w) (List·Memᴰ·head e) h = rw (kept (p b) b (projection p w) (ap p (sym e) ∙ h)) (List·Memᴰ·head e)
+into-projection p (b ∷ w) (List·Memᴰ·head e) h = rw (keep-true (p b) b (projection p w) (ap p (sym e) ∙ h)) (List·Memᴰ·head e)
 into-projection p (b ∷ w) (List·Memᴰ·tail m) h = keep-tail (p b) b (projection p w) (into-projection p w m h)
 
 -- V1: a projection has the actions of the word that pass the test
@@ -107,12 +92,12 @@ projection-without-own p a (b ∷ w) v h e = go (projection-without-own p a w v 
   where
     other : eqb b a ≡ false → (projection p w ≡ a ∷ v → projection p (without a w) ≡ v) → (p b ≡ true) ⊎ (p b ≡ false)
         → projection p (b ∷ without a w) ≡ v
-    other f rest (inl q) = absurd (eqb-false b a .0 f (heads (sym (kept (p b) b (projection p w) q) ∙ e) .0))
-    other f rest (inr q) = dropped (p b) b (projection p (without a w)) q ∙ rest (sym (dropped (p b) b (projection p w) q) ∙ e)
+    other f rest (inl q) = absurd (eqb-false b a .0 f (heads (sym (keep-true (p b) b (projection p w) q) ∙ e) .0))
+    other f rest (inr q) = keep-false (p b) b (projection p (without a w)) q ∙ rest (sym (keep-false (p b) b (projection p w) q) ∙ e)
 
     go : (projection p w ≡ a ∷ v → projection p (without a w) ≡ v) → (eqb b a ≡ true) ⊎ (eqb b a ≡ false)
         → projection p (without a (b ∷ w)) ≡ v
-    go rest (inl f) = rw f (heads (sym (kept (p b) b (projection p w) (ap p (eqb-true b a .0 f) ∙ h)) ∙ e) .1)
+    go rest (inl f) = rw f (heads (sym (keep-true (p b) b (projection p w) (ap p (eqb-true b a .0 f) ∙ h)) ∙ e) .1)
     go rest (inr f) = rw f (other f rest (true-or-false (p b)))
 
 -- V1: one that does not pass the test is missed in no projection
@@ -122,7 +107,7 @@ projection-without-other p a (b ∷ w) h = go (projection-without-other p a w h)
   where
     go : projection p (without a w) ≡ projection p w → (eqb b a ≡ true) ⊎ (eqb b a ≡ false)
         → projection p (without a (b ∷ w)) ≡ keep (p b) b (projection p w)
-    go rest (inl f) = rw f (sym (dropped (p b) b (projection p w) (ap p (eqb-true b a .0 f) ∙ h)))
+    go rest (inl f) = rw f (sym (keep-false (p b) b (projection p w) (ap p (eqb-true b a .0 f) ∙ h)))
     go rest (inr f) = rw f (ap (keep (p b) b) rest)
 
 -- ---- words that are the same, cut down to each of the alphabets that cover a dependence (V5)
@@ -132,10 +117,10 @@ keep-swap true true a b w h = absurd (h (refl, refl))
 keep-swap true false a b w h = refl
 keep-swap false q a b w h = refl
 
-module _ (dep : ℕ → ℕ → Bool) (D : Dependence dep) (count : ℕ) (has : ℕ → ℕ → Bool) (m : ℕ) (C : Covers dep count has m) where
+module _ (dep : ℕ → ℕ → Bool) (count : ℕ) (has : ℕ → ℕ → Bool) (A : AllDependent dep count has) where
   swap-projections : {u v : List ℕ} → Swap dep u v → (j : ℕ) → j < count → projection (has j) u ≡ projection (has j) v
   swap-projections (here {a = a} {b = b} {w = w} e) j l =
-      keep-swap (has j a) (has j b) a b (projection (has j) w) (λ h. not-both (C .within j l a b (h .0) (h .1)) e)
+      keep-swap (has j a) (has j b) a b (projection (has j) w) (λ h. not-both (A j l a b (h .0) (h .1)) e)
   swap-projections (later {a = a} s) j l = ap (keep (has j a) a) (swap-projections s j l)
 
   -- V5: no swap changes a projection
@@ -143,27 +128,28 @@ module _ (dep : ℕ → ℕ → Bool) (D : Dependence dep) (count : ℕ) (has : 
   related-projections unchanged j l = refl
   related-projections (swap s r) j l = swap-projections s j l ∙ related-projections r j l
 
+module _ (dep : ℕ → ℕ → Bool) (D : Dependence dep) (count : ℕ) (has : ℕ → ℕ → Bool) (m : ℕ) (C : Covers dep count has m) where
   -- a heads each projection of v to an alphabet that has it
   abbrev Leads : ℕ → List ℕ → Type 0
   Leads a v = (j : ℕ) → j < count → has j a ≡ true → (r : List ℕ) × (projection (has j) v ≡ a ∷ r)
 
   -- such an action may stand first: every action before it is independent of it
   leads-related : (a : ℕ) (v : List ℕ) → a < m → ((b : ℕ) → List·Memᴰ b v → b < m) → Leads a v → Related dep v (a ∷ without a v)
-  leads-related a [] l o h = let (j, k, x, y) = C .shared a a l l (D .reflexive a) in absurd (nil-cons (h j k x .1))
+  leads-related a [] l o h = let (j, k, x, y) = C a a l l (D .reflexive a) in absurd (nil-cons (h j k x .1))
   leads-related a (b ∷ v) l o h = go (leads-related a v l (λ c n. o c (List·Memᴰ·tail n))) (true-or-false (eqb b a))
     where
       -- another action in front is in no alphabet that has a
       out : b ≢ a → (j : ℕ) → j < count → has j a ≡ true → has j b ≡ false
       out n j k x =
-          false-iff (has j b) .1 (λ y. n (heads (sym (kept (has j b) b (projection (has j) v) y) ∙ h j k x .1) .0))
+          false-iff (has j b) .1 (λ y. n (heads (sym (keep-true (has j b) b (projection (has j) v) y) ∙ h j k x .1) .0))
 
       leads : b ≢ a → Leads a v
-      leads n j k x = let r = h j k x in (r .0, sym (dropped (has j b) b (projection (has j) v) (out n j k x)) ∙ r .1)
+      leads n j k x = let r = h j k x in (r .0, sym (keep-false (has j b) b (projection (has j) v) (out n j k x)) ∙ r .1)
 
       free : b ≢ a → dep b a ≡ false
       free n =
           false-iff (dep b a) .1 (λ e.
-          let s = C .shared b a (o b (List·Memᴰ·head refl)) l e in
+          let s = C b a (o b (List·Memᴰ·head refl)) l e in
           not-both (s .2) (out n (s .0) (s .1) (s .3)))
 
       go : (Leads a v → Related dep v (a ∷ without a v)) → (eqb b a ≡ true) ⊎ (eqb b a ≡ false)
@@ -177,8 +163,8 @@ module _ (dep : ℕ → ℕ → Bool) (D : Dependence dep) (count : ℕ) (has : 
   none-left [] o s = unchanged
   none-left (b ∷ v) o s =
       let l = o b (List·Memᴰ·head refl) in
-      let (j, k, x, y) = C .shared b b l l (D .reflexive b) in
-      absurd (nil-cons (s j k ∙ kept (has j b) b (projection (has j) v) x))
+      let (j, k, x, y) = C b b l l (D .reflexive b) in
+      absurd (nil-cons (s j k ∙ keep-true (has j b) b (projection (has j) v) x))
 
   -- V5: words that have the same projections are related
   pub projections-related : (u v : List ℕ) → ((a : ℕ) → List·Memᴰ a u → a < m) → ((a : ℕ) → List·Memᴰ a v → a < m)
@@ -190,7 +176,7 @@ module _ (dep : ℕ → ℕ → Bool) (D : Dependence dep) (count : ℕ) (has : 
       (related-sym dep D (leads-related a v (o a (List·Memᴰ·head refl)) p leads))
     where
       begins : (j : ℕ) → j < count → has j a ≡ true → projection (has j) v ≡ a ∷ projection (has j) u
-      begins j l x = sym (s j l) ∙ kept (has j a) a (projection (has j) u) x
+      begins j l x = sym (s j l) ∙ keep-true (has j a) a (projection (has j) u) x
 
       leads : Leads a v
       leads j l x = (projection (has j) u, begins j l x)
@@ -201,4 +187,4 @@ module _ (dep : ℕ → ℕ → Bool) (D : Dependence dep) (count : ℕ) (has : 
           go : (has j a ≡ true) ⊎ (has j a ≡ false) → projection (has j) u ≡ projection (has j) (without a v)
           go (inl x) = sym (projection-without-own (has j) a v (projection (has j) u) x (begins j l x))
           go (inr x) =
-              sym (dropped (has j a) a (projection (has j) u) x) ∙ s j l ∙ sym (projection-without-other (has j) a v x)
+              sym (keep-false (has j a) a (projection (has j) u) x) ∙ s j l ∙ sym (projection-without-other (has j) a v x)

@@ -13,10 +13,14 @@ projection p [] = []
 projection p (a ∷ w) = keep (p a) a (projection p w)
 
 -- so many alphabets, of which `has j a` says that alphabet j has the action a, cover a dependence (N3): of two dependent actions below m some
--- alphabet has both; and no alphabet has two actions that are independent
-pub record Covers (dep : ℕ → ℕ → Bool) (count : ℕ) (has : ℕ → ℕ → Bool) (m : ℕ) : Type 0 where
-  pub shared : (a b : ℕ) → a < m → b < m → dep a b ≡ true → (j : ℕ) × (j < count) × (has j a ≡ true) × (has j b ≡ true)
-  pub within : (j : ℕ) → j < count → (a b : ℕ) → has j a ≡ true → has j b ≡ true → dep a b ≡ true
+-- alphabet has both
+abbrev pub Covers : (ℕ → ℕ → Bool) → ℕ → (ℕ → ℕ → Bool) → ℕ → Type 0
+Covers dep count has m =
+    (a b : ℕ) → a < m → b < m → dep a b ≡ true → (j : ℕ) × (j < count) × (has j a ≡ true) × (has j b ≡ true)
+
+-- no alphabet has two actions that are independent (N3)
+abbrev pub AllDependent : (ℕ → ℕ → Bool) → ℕ → (ℕ → ℕ → Bool) → Type 0
+AllDependent dep count has = (j : ℕ) → j < count → (a b : ℕ) → has j a ≡ true → has j b ≡ true → dep a b ≡ true
 
 -- V1: the two words, cut down to any of the alphabets, are the same
 abbrev pub SameProjections : ℕ → (ℕ → ℕ → Bool) → List ℕ → List ℕ → Type 0

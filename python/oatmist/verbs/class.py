@@ -16,7 +16,7 @@ import sys
 
 from .. import calls, files, inputs, listings, manners, sittings, words
 from ..classes import Classes
-from ..faults import Fault
+from ..faults import Fault, Unfit
 from ..progress import watched
 from ..receipts import receipt
 from ..sheet import encode
@@ -52,12 +52,19 @@ def model_of(path, system):
     """The restated sheet of the model solution, which must be accepted; None where there is no path."""
     if path is None:
         return None
-    execution = inputs.read_execution(path, system)
+    try:
+        execution = inputs.read_execution(path, system)
+    except Unfit as fault:
+        raise no_model(fault.number, fault.sentence, fault.line, fault.path)
     try:
         return calls.restate(encode(system, execution))
     except calls.Refusal as refusal:
-        told = words.refused(system, execution, refusal)
-        raise Fault(f"the model solution is refused by {refusal.number}. {told}", path=files.named(path), status=manners.REFUSED)
+        raise no_model(refusal.number, words.refused(system, execution, refusal), path=files.named(path))
+
+
+def no_model(number, told, line=0, path=""):
+    """Tells that the model solution is refused, and why."""
+    return Fault(f"the model solution is refused by {number}. {told}", line, path, manners.REFUSED)
 
 
 def listing(given, lines, classes, system):

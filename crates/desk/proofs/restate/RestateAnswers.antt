@@ -49,9 +49,9 @@ module _ (b before section : List ℕ) (z : Sizes) (o : List ℕ) (g : SheetGive
         omega arith
 
     -- R13: the output is too short for the restated sheet, and is as it came (O5)
-    pub restate-short : (out : List ℕ) → length out < length before + 8 * count + 10 → RestateAnswer b out (Refused 13 0 0) out
-    restate-short out h =
-        let e = size-told in refused-right b out 13 0 0 (refused-short b (length out) (g .sheet .sheet-accepted) (omega arith))
+    pub restate-short : (out : List ℕ) → length out < length before + 8 * count + 10 → (r : Answer) → r ≡ Refused 13 0 0 → RestateAnswer b out r out
+    restate-short out h r told =
+        let e = size-told in rw told (refused-right b out 13 0 0 (refused-short b (length out) (g .sheet .sheet-accepted) (omega arith)))
 
     -- N9: the packed steps, written with tables and trailer, are the restated sheet in the output
     pub restate-written : (out after : List ℕ) → length before + 8 * count + 10 ≤ length out

@@ -22,7 +22,8 @@ returns c =
     let b = start-at r .args .sheet .now in
     let told = r .read-trailer .result in
     let stop = trailer-stopped b told (c .match .keys2) (r .read-trailer .ensures) in
-    ColumnsAnswer.sheet-refused (stop .number) (stop .index) (trailer-verdict b told (c .match .keys2) stop) (stop .answer-told) refl
+    ColumnsAnswer.sheet-refused (stop .number) (stop .index) (trailer-verdict b told (c .match .keys2) stop)
+    (ap outcomeOf (stop .answer-told)) refl
 
 abbrev read-at : tie.After-known-told → tie.After-read-trailer
 read-at c = c .before .before .before
@@ -43,7 +44,7 @@ returns-2 c =
     let stop =
     stopped-by told (c .match2 .keys2) (verdict b) (componentCount b) (actionCount b) (transitionsAt b) (stepsAt b)
     (d .judge-tables .ensures .0 .answer-told) in
-    ColumnsAnswer.sheet-refused (stop .number) (stop .index) (stop .verdict-told) (stop .answer-told) refl
+    ColumnsAnswer.sheet-refused (stop .number) (stop .index) (stop .verdict-told) (ap outcomeOf (stop .answer-told)) refl
 
 merge-columns-requires : tie.Need-merge-columns-requires
 merge-columns-requires c κs =

@@ -12,8 +12,9 @@ use lib.Seq.{getD-set-same, getD-set-other}
 use Rattle.sets.proofs.Bools.{true-or-false, ltb-true, ltb-false, equal-or-not}
 use Rattle.sets.proofs.Lists.{drop-next, last-or-below}
 use Rattle.sheet.specs.Bounds.{mostComponents, mostActions}
-use Rattle.merging.specs.legible.Reading.{partOf}
-use Rattle.merging.specs.heads.Heads.{restIn, FirstBelow, ShowsFirst, Lined, NoneBehind, leftBelow, labelsLeft, HeadedBy, Shown, Everywhere}
+use Rattle.merging.specs.legible.Reading.{partOf, restIn, NoneBehind}
+use Rattle.columns.specs.Merging.{HeadedBy}
+use Rattle.merging.specs.heads.Heads.{FirstBelow, ShowsFirst, Lined, leftBelow, labelsLeft, Shown, Everywhere}
 use Rattle.merging.proofs.heads.Showing.{shown-none, shown-as, shown-more, head-mem}
 
 -- ---- a part of the bytes

@@ -14,9 +14,9 @@ use Rattle.sets.specs.Bits.{member, with}
 use Rattle.sets.proofs.Bools.{not-both, false-iff, eqb-true, eqb-false, equal-or-not}
 use Rattle.sets.proofs.Members.{member-zero, with-member}
 use Rattle.sheet.specs.Bounds.{mostActions}
-use Rattle.columns.specs.Merging.{Rest}
+use Rattle.columns.specs.Merging.{Rest, HeadedBy}
 use Rattle.dependence.specs.participants.Participants.{participates}
-use Rattle.merging.specs.heads.Heads.{ShowsFirst, HeadedBy, Shown, Everywhere}
+use Rattle.merging.specs.heads.Heads.{ShowsFirst, Shown, Everywhere}
 
 -- ---- the promise of one turn
 

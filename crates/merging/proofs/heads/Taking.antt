@@ -14,8 +14,9 @@ use Rattle.sets.proofs.Bools.{not-both, false-iff, equal-or-not}
 use Rattle.sets.proofs.Members.{member-lt, member-zero}
 use Rattle.sheet.specs.Bounds.{mostComponents, mostActions}
 use Rattle.dependence.specs.participants.Participants.{participates}
-use Rattle.merging.specs.legible.Reading.{partOf}
-use Rattle.merging.specs.heads.Heads.{restIn, FirstBelow, ShowsFirst, Lined, labelsLeft, HeadedBy, Shown, Everywhere, ActionTaken}
+use Rattle.merging.specs.legible.Reading.{partOf, restIn}
+use Rattle.columns.specs.Merging.{HeadedBy}
+use Rattle.merging.specs.heads.Heads.{FirstBelow, ShowsFirst, Lined, labelsLeft, Shown, Everywhere, ActionTaken}
 use Rattle.merging.proofs.heads.Showing.{shown-as, shown-more, ready-some, ready-heads, shown-left}
 use Rattle.merging.proofs.heads.Lining.{headed-less, first-below, next-part, next-here, next-other, lined-next, fewer-next}
 

@@ -10,12 +10,11 @@ use lib.ListN.{length, take, drop, length-append, length-drop}
 use lib.Seq.{take-at, drop-at, take-add, drop-drop, length-take-le}
 use Rattle.sets.specs.Lists.{appendAll}
 use Rattle.sets.specs.Bits.{member}
-use Rattle.sets.proofs.Lists.{appendAll-append}
+use Rattle.sets.proofs.Lists.{appendAll-append, each-element}
 use Rattle.sheet.specs.Numbers.{AreBytes, number, bytes, field}
 use Rattle.sheet.proofs.Numbers.{bytes-take, bytes-drop, bytes-number, number-bytes, number-part, length-bytes}
 use Rattle.columns.specs.ColumnBytes.{countSize, columnBytes, columnsBytes}
 use Rattle.merging.specs.legible.Reading.{partOf, LabelsOwn, ColumnAt}
-use Rattle.merging.proofs.legible.Arrays.{each-element}
 
 -- V2: how many bytes columns have: two for each, and one for each label
 pub bytes-length : (cs : List (List ℕ)) → length (columnsBytes cs) ≡ 2 * length cs + length (appendAll cs)
@@ -107,7 +106,7 @@ module _ (d c rest : List ℕ) (at alphabet : ℕ) (e : drop at d ≡ columnByte
         inside = first-inside countSize d c rest at e (omega arith);
         own =
             subst (LabelsOwn alphabet) (sym (first-part countSize d c rest at e))
-            (each-element (λ a. member alphabet a ≡ true) c .1 own);
+            (each-element (λ a. member alphabet a ≡ true) c 0 .1 own);
       }
 
   -- V2: what stands behind the first column

@@ -2,23 +2,27 @@
 -- rest. Where there is no next column none fill them; and when all are read, the last test tells whether they do.
 -- Assumes nothing.
 use mathlib.Core.Path.{_≡_, refl, sym, ap, _∙_, subst}
-use mathlib.Core.Bool.{true, false, _&&_, false≢true}
+use mathlib.Core.Bool.{Bool, true, false, not, _||_}
 use mathlib.Core.List.{List, [], _∷_, _++_, List·Memᴰ}
 use Prim.Native.Nat.{ℕ, _+_, _*_, _^_, _≤_, _<_}
 use native.Mathlib.Numerals.{add-one}
 use native.Mathlib.Omega.{arith}
-use lib.Dec.{eqb, leb}
+use lib.Dec.{eqb, ltb}
 use lib.ListN.{length, take, drop, getD, set, replicate, length-set, length-map, length-drop, drop-of-length-le}
 use lib.Seq.{take-all, drop-cons}
 use Rattle.sets.specs.Lists.{upward, below}
 use Rattle.sets.specs.Bits.{member}
-use Rattle.sets.proofs.Bools.{and-true, not-both, eqb-true, leb-true}
-use Rattle.sets.proofs.Lists.{length-below, list-below-at}
+use Rattle.sets.proofs.Bools.{not-both, not-false, or-false, eqb-true, ltb-false}
+use Rattle.sets.proofs.Lists.{entry-short, each-element, replicate-at, length-below, list-below-at}
+use Rattle.sets.proofs.Filling.{stored-both, map-below-last}
 use Rattle.sheet.specs.Bounds.{mostComponents, mostInSteps}
 use Rattle.sheet.specs.Numbers.{AreBytes}
+use Rattle.answers.specs.declared.Sizes.{Sizes}
+use Rattle.answers.specs.declared.Answer.{Answer}
+use Rattle.answers.specs.declared.Answer.the-variants.{Refused}
 use Rattle.columns.specs.ColumnBytes.{countSize, columnBytes, columnsBytes}
-use Rattle.merging.specs.legible.Reading.{partOf, LabelsOwn, ColumnAt, FilledBy, columnsAt, ColumnsRead}
-use Rattle.merging.proofs.legible.Arrays.{each-element, entry-short, zeros-at, map-below-last, stored-both}
+use Rattle.columns.specs.ColumnRefusals.{FilledBy}
+use Rattle.merging.specs.legible.Reading.{partOf, LabelsOwn, ColumnAt, inArray, columnsAt, ColumnsStand, ColumnsRead}
 use Rattle.merging.proofs.legible.Counts.{bytes-length, columns-more, column-read, column-first, column-behind}
 
 -- R18: the first j columns are read, and the next one begins at `at`
@@ -32,7 +36,7 @@ pub record ReadUpTo (d : List ℕ) (n : ℕ) (alphabets heads ends : List ℕ) (
   pub order : (i : ℕ) → getD heads i 0 ≤ getD ends i 0
   pub inside : (i : ℕ) → getD ends i 0 ≤ length d
   pub behind : (i : ℕ) → j ≤ i → getD heads i 0 ≡ getD ends i 0
-  pub left : (cs : List (List ℕ)) → FilledBy d n alphabets cs → drop at d ≡ columnsBytes (drop j cs)
+  pub left : (cs : List (List ℕ)) → FilledBy d n (inArray alphabets) cs → drop at d ≡ columnsBytes (drop j cs)
 
 -- R18: no column is read yet
 pub read-none : (d : List ℕ) (n : ℕ) (alphabets heads ends : List ℕ)
@@ -53,15 +57,15 @@ read-none d n alphabets heads ends h e =
     }
   where
     zero-heads : (i : ℕ) → getD heads i 0 ≡ 0
-    zero-heads i = ap (λ (l : List ℕ). getD l i 0) h ∙ zeros-at mostComponents i
+    zero-heads i = ap (λ (l : List ℕ). getD l i 0) h ∙ replicate-at mostComponents 0 i
 
     zero-ends : (i : ℕ) → getD ends i 0 ≡ 0
-    zero-ends i = ap (λ (l : List ℕ). getD l i 0) e ∙ zeros-at mostComponents i
+    zero-ends i = ap (λ (l : List ℕ). getD l i 0) e ∙ replicate-at mostComponents 0 i
 
 -- ---- of columns that fill the bytes, the one with index j
 
 module _ (d : List ℕ) (n : ℕ) (alphabets heads ends : List ℕ) (at j : ℕ) (r : ReadUpTo d n alphabets heads ends at j) (l : j < n)
-    (cs : List (List ℕ)) (F : FilledBy d n alphabets cs) where
+    (cs : List (List ℕ)) (F : FilledBy d n (inArray alphabets) cs) where
   next : drop at d ≡ columnBytes (getD cs j []) ++ columnsBytes (drop (j + 1) cs)
   next =
       let h : j < length cs = let o = F .one-each in omega arith in
@@ -121,19 +125,9 @@ module _ (d : List ℕ) (n : ℕ) (alphabets heads ends : List ℕ) (at j : ℕ)
           ∙ ap (λ (c : List ℕ). columnsAt d heads ends j ++ (c ∷ []))
           (stored (λ x y. partOf d x y ≡ partOf d begin end) j (λ q. absurd (q refl)) (λ q. refl))
 
-  -- ---- there is no column
   -- R18: without a next column no columns fill the bytes
-  pub read-out : ((end : ℕ) → ¬ ColumnAt d at (getD alphabets j 0) end) → ColumnsRead d n alphabets heads ends false
-  read-out none =
-      record {
-        heads-size = r .heads-size;
-        ends-size = r .ends-size;
-        filled = λ e. absurd (false≢true e);
-        order = λ e. absurd (false≢true e);
-        inside = λ e. absurd (false≢true e);
-        behind = λ e. absurd (false≢true e);
-        not-filled = λ e cs F. none _ (stands d n alphabets heads ends at j r l cs F);
-      }
+  pub read-out : ((end : ℕ) → ¬ ColumnAt d at (getD alphabets j 0) end) → (cs : List (List ℕ)) → ¬ FilledBy d n (inArray alphabets) cs
+  read-out none cs F = none _ (stands d n alphabets heads ends at j r l cs F)
 
 -- ---- all columns are read: they fill the bytes where the last one ends with the bytes, and the place where it ends tells how many labels
 -- they have
@@ -144,7 +138,7 @@ module _ (d : List ℕ) (n : ℕ) (alphabets heads ends : List ℕ) (at : ℕ) (
   one-each : length cols ≡ n
   one-each = length-map (below n) _ ∙ length-below n
 
-  filled-by : at ≡ length d → at ≤ 2 * n + mostInSteps → FilledBy d n alphabets cols
+  filled-by : at ≡ length d → at ≤ 2 * n + mostInSteps → FilledBy d n (inArray alphabets) cols
   filled-by e few =
       record {
         filled = whole;
@@ -158,10 +152,10 @@ module _ (d : List ℕ) (n : ℕ) (alphabets heads ends : List ℕ) (at : ℕ) (
 
       own : (i : ℕ) → i < n → (a : ℕ) → List·Memᴰ a (getD cols i []) → member (getD alphabets i 0) a ≡ true
       own i l =
-          each-element (λ a. member (getD alphabets i 0) a ≡ true) (getD cols i []) .0
+          each-element (λ a. member (getD alphabets i 0) a ≡ true) (getD cols i []) 0 .0
           (subst (LabelsOwn (getD alphabets i 0)) (sym (list-below-at (λ k. partOf d (getD heads k 0) (getD ends k 0)) n i l)) (r .own i l))
 
-  ends-with : (cs : List (List ℕ)) → FilledBy d n alphabets cs → (at ≡ length d) × (at ≤ 2 * n + mostInSteps)
+  ends-with : (cs : List (List ℕ)) → FilledBy d n (inArray alphabets) cs → (at ≡ length d) × (at ≤ 2 * n + mostInSteps)
   ends-with cs F =
       let none : drop n cs ≡ [] = drop-of-length-le cs {i = n} (let o = F .one-each in omega arith) in
       let e = ap length (r .left cs F ∙ ap columnsBytes none) in
@@ -172,21 +166,37 @@ module _ (d : List ℕ) (n : ℕ) (alphabets heads ends : List ℕ) (at : ℕ) (
       let k = length-drop at d in
       (omega arith, omega arith)
 
-  -- R18: all columns are read: they fill the bytes, or none do
-  pub read-all : ColumnsRead d n alphabets heads ends (eqb at (length d) && leb at (2 * n + mostInSteps))
-  read-all =
+  -- R18: the test behind the last column
+  abbrev past : Bool
+  past = not (eqb at (length d)) || ltb (2 * n + mostInSteps) at
+
+  within : past ≡ false → (at ≡ length d) × (at ≤ 2 * n + mostInSteps)
+  within e =
+      let b = or-false _ _ .0 e in
+      (eqb-true at (length d) .0 (not-false _ .0 (b .0)), ltb-false (2 * n + mostInSteps) at .0 (b .1))
+
+  -- R18: the last column does not end with the bytes, or too far behind: no columns fill them
+  pub read-past : past ≡ true → (cs : List (List ℕ)) → ¬ FilledBy d n (inArray alphabets) cs
+  read-past e cs F =
+      let h = ends-with cs F in
+      let same = not-false _ .1 (eqb-true at (length d) .1 (h .0)) in
+      not-both e (or-false _ _ .1 (same, ltb-false (2 * n + mostInSteps) at .1 (h .1)))
+
+  -- R18: else the columns that were read do
+  pub read-all : past ≡ false → ColumnsStand d n alphabets heads ends
+  read-all e =
       record {
         heads-size = r .heads-size;
         ends-size = r .ends-size;
-        filled =
-            λ e.
-            let b = and-true _ _ .0 e in
-            filled-by (eqb-true at (length d) .0 (b .0)) (leb-true at (2 * n + mostInSteps) .0 (b .1));
-        order = λ e. r .order;
-        inside = λ e. r .inside;
-        behind = λ e. r .behind;
-        not-filled =
-            λ e cs F.
-            let h = ends-with cs F in
-            not-both (and-true _ _ .1 (eqb-true at (length d) .1 (h .0), leb-true at (2 * n + mostInSteps) .1 (h .1))) e;
+        filled = filled-by (within e .0) (within e .1);
+        order = r .order;
+        inside = r .inside;
+        behind = r .behind;
       }
+
+-- ---- what is answered (F1)
+
+-- R18: 18, where no columns fill the bytes
+pub refused-read : (d : List ℕ) (z : Sizes) (alphabets heads ends : List ℕ) (r : Answer) → r ≡ Refused 18 0 0
+    → ((cs : List (List ℕ)) → ¬ FilledBy d (z .n) (inArray alphabets) cs) → ColumnsRead d z alphabets heads ends r
+refused-read d z alphabets heads ends r e none = rw e (refl, none)

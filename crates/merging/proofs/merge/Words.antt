@@ -18,10 +18,11 @@ use Rattle.sheet.specs.Bounds.{stepSize, mostActions, mostSteps}
 use Rattle.sheet.specs.Numbers.{bytes}
 use Rattle.sheet.specs.Writing.{stepBytes}
 use Rattle.sheet.proofs.Numbers.{length-numbers}
-use Rattle.columns.specs.Merging.{single, Merged}
+use Rattle.columns.specs.Merging.{single, Merged, HeadedBy}
 use Rattle.columns.proofs.Merging.{merged-none, merged-more}
 use Rattle.dependence.specs.participants.Participants.{participates, Participants}
-use Rattle.merging.specs.heads.Heads.{restIn, Lined, labelsLeft, HeadedBy, Shown, Everywhere, ReadyTaken}
+use Rattle.merging.specs.legible.Reading.{restIn}
+use Rattle.merging.specs.heads.Heads.{Lined, labelsLeft, Shown, Everywhere, ReadyTaken}
 use Rattle.merging.specs.merge.Merging.{MergedInto}
 use Rattle.merging.proofs.heads.Showing.{head-mem}
 

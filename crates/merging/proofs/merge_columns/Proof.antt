@@ -1,11 +1,13 @@
 -- `merge_columns` meets its contract (R18, R19, V3, O9): 18 where the bytes are no columns for the sheet, 19 where labels are left over,
 -- else what the merged word answers.
 -- Assumes nothing.
-use mathlib.Core.Path.{refl}
+use mathlib.Core.Path.{refl, ap}
+use mathlib.Core.List.{List}
+use Prim.Native.Nat.{ℕ}
 use native.Mathlib.Omega.{arith}
 use lib.ListN.{length-take}
 use borrow.Author.Needs.{needs}
-use Rattle.sets.proofs.Bools.{not-true, not-false}
+use Rattle.answers.specs.Outcomes.{outcomeOf}
 use Rattle.columns.specs.Calls.{ColumnsAnswer}
 use Rattle.merging.proofs.LinedColumns.{not-legible, Found, found-by, columns-found, few-left, lined}
 use Rattle.merging.proofs.MergedColumns.{left-not, word-given, word-answered}
@@ -18,45 +20,52 @@ alphabets-at c = c .before .before .before .before .before
 abbrev start-at : tie.After-read-columns → tie.Start
 start-at c = alphabets-at c .before .before .before .before .before .before
 
+-- what the reader left
+abbrev heads-at : tie.After-read-columns → List ℕ
+heads-at c = c .read-columns .last .1 .1 .1 .0
+
+abbrev ends-at : tie.After-read-columns → List ℕ
+ends-at c = c .read-columns .last .1 .1 .1 .1 .0
+
 returns : tie.Need-returns
 returns c =
-    let read = c .before .before .before .before in
+    let read = c .before .before .before in
     let k = start-at read .pre .0 in
-    ColumnsAnswer.not-legible (k .sheet-accepted)
-    (not-legible k (alphabets-at read .alphabets-of .ensures) (read .read-columns .ensures) (not-true _ .0 (c .before .if1 .taken)))
-    (c .refuse .ensures) refl
+    let told = read .read-columns in
+    let no = not-legible k (alphabets-at read .alphabets-of .ensures) (heads-at read) (ends-at read) (told .result) (c .match .keys2) (told .ensures) in
+    ColumnsAnswer.not-legible (k .sheet-accepted) (no .1) (ap outcomeOf (no .0)) refl
 
 -- ---- the columns were read
 
-abbrev read-at : tie.Else1 → tie.After-read-columns
-read-at c = c .before .before .before
+abbrev read-at : tie.After-enum-told → tie.After-read-columns
+read-at c = c .before .before .before .before
 
 -- by the alphabets of the sheet, which are found, and by the participants, which are handed over
-abbrev Known : tie.Else1 → Type 0
+abbrev Known : tie.After-enum-told → Type 0
 Known c =
     let read = read-at c in
     let a = start-at read .args in
-    Found (a .sheet .now) (a .sizes) (alphabets-at read .alphabets-of .last .1 .1 .0) (a .participants .now) (a .columns .now)
-    (read .read-columns .last .1 .1 .1 .0) (read .read-columns .last .1 .1 .1 .1 .0)
+    Found (a .sheet .now) (a .sizes) (alphabets-at read .alphabets-of .last .1 .1 .0) (a .participants .now) (a .columns .now) (heads-at read)
+    (ends-at read)
 
-known : (c : tie.Else1) → Known c
+known : (c : tie.After-enum-told) → Known c
 known c =
     let read = read-at c in
     let k = start-at read .pre in
-    found-by (k .0) (alphabets-at read .alphabets-of .ensures) (k .1 (k .0 .sheet-accepted)) (read .read-columns .ensures)
-    (not-false _ .0 (c .if1 .left))
+    found-by (read .read-columns .result) _ (c .enum-told .given .1) (k .0) (alphabets-at read .alphabets-of .ensures)
+    (k .1 (k .0 .sheet-accepted)) (read .read-columns .ensures)
 
 merge-requires : tie.Need-merge-requires
 merge-requires c κs =
     let f = known (c .before .before .before) in
-    (lined f, f .sheet .sizes-read .n-high, f .read .behind refl, few-left f, refl)
+    (lined f, f .sheet .sizes-read .n-high, f .read .behind, few-left f, refl)
 
 -- ---- the columns were merged
 
 abbrev merged-at : tie.After-some-left → tie.After-merge
 merged-at c = c .before .before .before .before .before
 
-abbrev passed-at : tie.After-merge → tie.Else1
+abbrev passed-at : tie.After-merge → tie.After-enum-told
 passed-at c = c .before .before .before .before
 
 returns-2 : tie.Need-returns-2
@@ -65,7 +74,7 @@ returns-2 c =
     let made = merged-at left in
     let f = known (passed-at made) in
     ColumnsAnswer.not-executable (f .sheet .sheet-accepted) _ (columns-found f)
-    (left-not f (made .merge .ensures) (left .some-left .ensures) (c .before .if2 .taken)) (c .refuse2 .ensures) refl
+    (left-not f (made .merge .ensures) (left .some-left .ensures) (c .before .if1 .taken)) (ap outcomeOf (c .refuse .ensures)) refl
 
 slice-aggregate-restate-word-2 : tie.Need-slice-aggregate-restate-word-2
 slice-aggregate-restate-word-2 c =
@@ -84,7 +93,7 @@ returns-3 c =
     let w = c .before .before in
     let none = w .before .before .before .before in
     let made = merged-at (none .before) in
-    word-answered (known (passed-at made)) (made .merge .ensures) (none .before .some-left .ensures) (none .if2 .left)
+    word-answered (known (passed-at made)) (made .merge .ensures) (none .before .some-left .ensures) (none .if1 .left)
     (w .restate-word .ensures)
 
 pub merge-columns-spec : {M : Type 1} → statement M
@@ -97,7 +106,7 @@ merge-columns-spec =
     (λ c. search needs)
     (λ c. search needs)
     (λ c κs. search needs)
-    (λ c κs. search needs)
+    (λ c. search needs)
     returns
     (λ c. search needs)
     (λ c. search needs)

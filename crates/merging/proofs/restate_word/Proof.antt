@@ -1,7 +1,7 @@
 -- `restate_word` meets its contract (V3, R19, R13, O5): 19 where the run over the section has a fault, and the output as it came; else the
 -- sheet with these steps is restated.
 -- Assumes nothing.
-use mathlib.Core.Path.{_≡_, refl}
+use mathlib.Core.Path.{_≡_, refl, ap}
 use mathlib.Core.Option.{none}
 use native.Mathlib.Omega.{arith}
 use lib.ListN.{take, length-take}
@@ -10,10 +10,12 @@ use Rattle.systems.specs.Running.{start}
 use Rattle.systems.specs.Checking.{firstFault}
 use Rattle.sheet.specs.Layout.{tables}
 use Rattle.sheet.specs.Sections.{stepsIn}
+use Rattle.answers.specs.Restated.{withSteps}
+use Rattle.answers.specs.Outcomes.{outcomeOf}
 use Rattle.answers.proofs.Restated.{accepted-limits}
 use Rattle.desk.specs.AcceptedSheet.{SheetGiven}
 use Rattle.machine.proofs.Running.{front-checked}
-use Rattle.merging.specs.Words.{WordAnswer, sheetWith}
+use Rattle.merging.specs.Words.{WordAnswer}
 use Rattle.merging.proofs.RunWords.{run-fine, run-faulty, word-parts, word-alphabets}
 use Rattle.merging.proofs.restate_word.Statement.{statement}
 use Rattle.merging.proofs.restate_word.Tie as tie
@@ -49,7 +51,7 @@ returns c =
     let stop = c .before in
     let ran = stop .before .before .before in
     WordAnswer.faulty (run-faulty (ran-start ran .pre .sheet) (ran .run-from-start .ensures .0) (stop .match .keys2))
-    (c .refuse .ensures) refl
+    (ap outcomeOf (c .refuse .ensures)) refl
 
 abbrev told-ran : tie.After-enum-told → tie.After-run-from-start
 told-ran c = c .before .before .before .before
@@ -64,7 +66,8 @@ fine-at c = let ran = told-ran c in run-fine (ran-start ran .pre .sheet) (ran .r
 
 -- the sheet with it, in parts
 parts-at : (c : tie.After-enum-told)
-    → let a = ran-start (told-ran c) .args in SheetGiven (sheetWith (a .sheet .now) (a .section .now)) (take (a .sizes .s) (a .sheet .now))
+    → let a = ran-start (told-ran c) .args in
+    SheetGiven (withSteps (a .sheet .now) (stepsIn (a .section .now))) (take (a .sizes .s) (a .sheet .now))
     (a .section .now) (a .sizes) (told-ran c .run-from-start .last .1 .1 .1 .1 .0)
 parts-at c = let ran = told-ran c in word-parts (ran-start ran .pre) (fine-at c) (ran .run-from-start .ensures .1)
 
@@ -72,14 +75,14 @@ write-restated-requires : tie.Need-write-restated-requires
 write-restated-requires c κs =
     let d = c .before .before .before in
     let a = ran-start (told-ran d) .args in
-    (sheetWith (a .sheet .now) (a .section .now), parts-at d)
+    (withSteps (a .sheet .now) (stepsIn (a .section .now)), parts-at d)
 
 returns-2 : tie.Need-returns-2
 returns-2 c =
     let w = c .before .before in
     let d = w .before .before .before .before in
     let a = ran-start (told-ran d) .args in
-    WordAnswer.runs (fine-at d) (w .write-restated .ensures (sheetWith (a .sheet .now) (a .section .now)) (parts-at d))
+    WordAnswer.runs (fine-at d) (w .write-restated .ensures (withSteps (a .sheet .now) (stepsIn (a .section .now))) (parts-at d))
 
 pub restate-word-spec : {M : Type 1} → statement M
 restate-word-spec =

@@ -9,13 +9,9 @@ use lib.Dec.{eqb}
 use lib.ListN.{length, drop, getD, set}
 use Rattle.sets.specs.Bits.{member, with}
 use Rattle.sheet.specs.Bounds.{mostComponents, mostActions}
-use Rattle.columns.specs.Merging.{Rest}
+use Rattle.columns.specs.Merging.{Rest, HeadedBy}
 use Rattle.dependence.specs.participants.Participants.{participates, OfSixteen}
-use Rattle.merging.specs.legible.Reading.{partOf}
-
--- what is left of each column, where two arrays have its begin and its end
-abbrev pub restIn : List ℕ → List ℕ → List ℕ → Rest
-restIn d heads ends j = partOf d (getD heads j 0) (getD ends j 0)
+use Rattle.merging.specs.legible.Reading.{restIn}
 
 -- the first label, where there is one, is the number of an action (L2)
 abbrev pub FirstBelow : List ℕ → Type 0
@@ -37,10 +33,6 @@ pub record Lined (o d heads ends : List ℕ) : Type 0 where
   pub inside : (j : ℕ) → getD ends j 0 ≤ length d
   pub own : (j a : ℕ) → List·Memᴰ a (restIn d heads ends j) → (a < mostActions) × (participates o j a ≡ true)
 
--- no column from the n-th on has a label left
-abbrev pub NoneBehind : ℕ → List ℕ → List ℕ → Type 0
-NoneBehind n heads ends = (j : ℕ) → n ≤ j → getD heads j 0 ≡ getD ends j 0
-
 -- whether one of the first n columns has a label left (R19)
 pub record LeftOver (n : ℕ) (heads ends : List ℕ) (r : Bool) : Type 0 where
   pub some : r ≡ true → (j : ℕ) × (j < n) × (getD heads j 0 ≢ getD ends j 0)
@@ -54,10 +46,6 @@ leftBelow (suc n) heads ends = (getD ends n 0 - getD heads n 0) + leftBelow n he
 -- how many labels all columns have left together
 abbrev pub labelsLeft : List ℕ → List ℕ → ℕ
 labelsLeft heads ends = leftBelow mostComponents heads ends
-
--- the action is the first label of what is left of column j
-abbrev pub HeadedBy : Rest → ℕ → ℕ → Type 0
-HeadedBy rest j a = (later : List ℕ) × (rest j ≡ a ∷ later)
 
 -- all components
 abbrev pub Everywhere : ℕ → Type 0

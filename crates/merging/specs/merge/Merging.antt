@@ -10,9 +10,10 @@ use Rattle.sets.specs.Lists.{over}
 use Rattle.systems.specs.Tables.{Tables, InOrder}
 use Rattle.sheet.specs.Bounds.{mostActions, mostSteps}
 use Rattle.sheet.specs.Writing.{stepBytes}
-use Rattle.columns.specs.Merging.{single, Merged}
+use Rattle.columns.specs.Merging.{single, Merged, HeadedBy}
 use Rattle.dependence.specs.participants.Participants.{participates, Participants}
-use Rattle.merging.specs.heads.Heads.{Lined, restIn, HeadedBy}
+use Rattle.merging.specs.legible.Reading.{restIn}
+use Rattle.merging.specs.heads.Heads.{Lined}
 
 -- a word was taken from the columns, by tables with these participants; it stands in the section, each action a step of its own; and of
 -- what is left no action heads the columns of all of its components

@@ -53,9 +53,10 @@ add-size c =
 
 returns-2 : tie.Need-returns-2
 returns-2 c =
-    let k = c .before .before in
+    let k = c .before .before .before in
     let r = read-at k in
-    rows-short (product-at r) (begins-at r) (alphabets-at r) (sizes-at k) (read-told k) (start-at r .args .out .now) (c .if1 .taken)
+    rows-short (product-at r) (begins-at r) (alphabets-at r) (sizes-at k) (read-told k) (start-at r .args .out .now) (c .before .if1 .taken)
+    (c .refuse .result) (c .refuse .ensures)
 
 write-product-requires : tie.Need-write-product-requires
 write-product-requires c κs =
@@ -81,6 +82,7 @@ rows-spec =
     (λ c. search needs)
     returns
     add-size
+    (λ c κs. search needs)
     returns-2
     (λ c. search needs)
     (λ c. search needs)

@@ -1,9 +1,10 @@
 -- `both::check_both` meets its contract (O6, O7, R14): the first sheet's refusal, else the second's, else 14, else the sizes that both
 -- have.
 -- Assumes nothing.
-use mathlib.Core.Path.{sym, _∙_}
+use mathlib.Core.Path.{sym, ap, _∙_}
 use mathlib.Core.List.{List}
 use Prim.Native.Nat.{ℕ}
+use Rattle.answers.specs.Outcomes.{outcomeOf}
 use Rattle.desk.specs.AcceptedSheet.{AcceptedSheet}
 use Rattle.desk.proofs.Accepted.{check-accepted}
 use Rattle.comparing.proofs.both.Refusals.{second-told, first-stops, second-stops, tables-stop, two-pass}
@@ -46,9 +47,11 @@ differ-requires c κs = (one-at (c .before .before .before .before), two-at c)
 
 returns-3 : tie.Need-returns-3
 returns-3 c =
-    let k = c .before .before .before .before .before .before in
-    tables-stop (first-at k) (second-at k) (one-at k .sheet-accepted) (two-at (c .before .before) .sheet-accepted)
-    (sym (c .before .differ .ensures) ∙ c .if1 .taken)
+    let t = c .before in
+    let k = t .before .before .before .before .before .before in
+    ap outcomeOf (c .refuse .ensures)
+    ∙ tables-stop (first-at k) (second-at k) (one-at k .sheet-accepted) (two-at (t .before .before) .sheet-accepted)
+    (sym (t .before .differ .ensures) ∙ t .if1 .taken)
 
 returns-4 : tie.Need-returns-4
 returns-4 c =
@@ -67,5 +70,6 @@ check-both-spec =
     (λ c. search needs)
     returns-2
     differ-requires
+    (λ c κs. search needs)
     returns-3
     returns-4)

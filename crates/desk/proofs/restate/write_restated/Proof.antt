@@ -57,9 +57,9 @@ add-size-2 c =
 
 returns : tie.Need-returns
 returns c b g =
-    let made = c .before .before in
+    let made = c .before .before .before in
     let a = start-at (made .before) .args in
-    restate-short b _ _ (a .sizes) _ g _ _ (packed-of made b g) (a .out .now) (c .if1 .taken)
+    restate-short b _ _ (a .sizes) _ g _ _ (packed-of made b g) (a .out .now) (c .before .if1 .taken) (c .refuse .result) (c .refuse .ensures)
 
 write-sheet-requires : tie.Need-write-sheet-requires
 write-sheet-requires c κs =
@@ -88,6 +88,7 @@ write-restated-spec =
     mul-size
     add-size
     add-size-2
+    (λ c κs. search needs)
     returns
     (λ c. search needs)
     (λ c. search needs)

@@ -6,7 +6,8 @@ use native.Mathlib.Omega.{arith}
 use lib.ListN.{length, length-replicate}
 use borrow.Author.Needs.{needs}
 use Rattle.sheet.specs.Bounds.{mostActions}
-use Rattle.merging.specs.heads.Heads.{restIn, Shown}
+use Rattle.merging.specs.legible.Reading.{restIn}
+use Rattle.merging.specs.heads.Heads.{Shown}
 use Rattle.merging.proofs.heads.Lining.{first-below, shown-start, shown-next, shown-everywhere}
 use Rattle.merging.proofs.heads.show_all.Statement.{statement}
 use Rattle.merging.proofs.heads.show_all.Tie as tie

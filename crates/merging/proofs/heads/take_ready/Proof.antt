@@ -6,7 +6,8 @@ use borrow.Author.Needs.{needs}
 use Rattle.sets.specs.Bits.{member}
 use Rattle.sets.proofs.Bools.{false-iff}
 use Rattle.sets.proofs.Walks.{taken-with-left}
-use Rattle.merging.specs.heads.Heads.{restIn, Shown, Everywhere}
+use Rattle.merging.specs.legible.Reading.{restIn}
+use Rattle.merging.specs.heads.Heads.{Shown, Everywhere}
 use Rattle.merging.proofs.heads.take_ready.Statement.{statement}
 use Rattle.merging.proofs.heads.take_ready.Tie as tie
 

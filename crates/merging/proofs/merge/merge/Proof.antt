@@ -19,11 +19,11 @@ use Rattle.merging.proofs.merge.merge.Statement.{statement}
 use Rattle.merging.proofs.merge.merge.Tie as tie
 
 abbrev Inv-loop : tie.InvT-loop
-Inv-loop columns n participants begins₀ ends section₀ waiting₀ ready₀ k₀ begins section waiting ready k =
-    MergedSoFar participants columns begins₀ ends section₀ begins section waiting ready k
+Inv-loop columns n participants heads₀ ends section₀ waiting₀ ready₀ k₀ heads section waiting ready k =
+    MergedSoFar participants columns heads₀ ends section₀ heads section waiting ready k
 
 abbrev μ-loop : tie.MeasureT-loop
-μ-loop columns n participants begins₀ ends section₀ waiting₀ ready₀ k₀ begins section waiting ready k = labelsLeft begins ends
+μ-loop columns n participants heads₀ ends section₀ waiting₀ ready₀ k₀ heads section waiting ready k = labelsLeft heads ends
 
 show-all-requires : tie.Need-show-all-requires Inv-loop μ-loop
 show-all-requires c κs = let s = c .before .before .before .before .before .before .before in (s .pre .0, s .pre .1, s .pre .2, refl)
