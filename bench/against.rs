@@ -1,6 +1,8 @@
 //! An older library against the present one: the same sheets, products and columns, one run (see tables.rs). Before anything
 //! is timed, every call of both answers and writes the same on them, and on random sheets, pairs, products and columns.
 //! Columns are left out where the older library does not have them: it is built with `--cfg columns` where it does.
+//! The figure of an exact half is rounded up by the older library unless this is built with `--cfg halves_to_even`: where
+//! it tells a version, it rounds by the present rule.
 //!
 //! Usage: against [SWEEPS]
 
@@ -35,6 +37,7 @@ mod tables;
 mod tally;
 
 use sheets::Dice;
+use std::sync::atomic::{AtomicUsize, Ordering};
 use tables::{answered, Input, Kind, Versions, KEPT, ROOM};
 
 /// The calls of a library whose names begin with this.
@@ -88,6 +91,13 @@ const VERSIONS: Versions = Versions {
         ],
         agree: |name, given| agree_on_sheet(name, &given.bytes),
     },
+    on_figures: Kind {
+        calls: &[
+            |given, _| answered::<1>(|answer| unsafe { old::figure(&given.bytes, answer) }),
+            |given, _| answered::<1>(|answer| unsafe { new::figure(&given.bytes, answer) }),
+        ],
+        agree: |name, given| agree_on_sheet(name, &given.bytes),
+    },
     on_products: Kind {
         calls: &[
             |given, out| answered::<1>(|answer| unsafe { old::rows(&given.bytes, out, answer) }),
@@ -130,20 +140,45 @@ fn valued(call: impl FnOnce(&mut [u64]) -> u64) -> (u64, [u64; 17]) {
 
 /// Every call on one sheet.
 fn agree_on_sheet(name: &str, sheet: &[u8]) {
-    type Reader = unsafe extern "C" fn(&[u8], &mut [u64]) -> u64;
-    let calls: [(&str, [Reader; 2]); 5] = [
-        ("check", [old::check, new::check]),
-        ("end sets", [old::end_sets, new::end_sets]),
-        ("process check", [old::process, new::process]),
-        ("figure", [old::figure, new::figure]),
-        ("stuck", [old::stuck, new::stuck]),
-    ];
-    for (call, versions) in calls {
-        let left = versions.map(|version| valued(|answer| unsafe { version(sheet, answer) }));
-        agree(&format!("{name}, {call}"), &[sheet], left);
-    }
+    agree_on_values(&format!("{name}, check"), sheet, [old::check, new::check]);
+    agree_on_values(&format!("{name}, end sets"), sheet, [old::end_sets, new::end_sets]);
+    agree_on_values(&format!("{name}, process check"), sheet, [old::process, new::process]);
+    agree_on_values(&format!("{name}, stuck"), sheet, [old::stuck, new::stuck]);
     agree_on_written(&format!("{name}, restate"), sheet, [old::restate, new::restate]);
+    if !cfg!(halves_to_even) && plain::verdict(sheet).is_ok_and(|sheet| sheet.is_half()) {
+        HALVES.fetch_add(1, Ordering::Relaxed);
+        return agree_on_half(name, sheet);
+    }
+    agree_on_values(&format!("{name}, figure"), sheet, [old::figure, new::figure]);
     agree_on_written(&format!("{name}, report"), sheet, [old::report, new::report]);
+}
+
+/// How often a sheet was compared whose figure is an exact half, which the older library rounds up.
+static HALVES: AtomicUsize = AtomicUsize::new(0);
+
+/// The figure of such a sheet is the same but for an odd one, which is one less now. Its report is the same but for the figure.
+fn agree_on_half(name: &str, sheet: &[u8]) {
+    let figures: [Reader; 2] = [old::figure, new::figure];
+    let [mut older, newer] = figures.map(|version| valued(|answer| unsafe { version(sheet, answer) }));
+    older.1[0] -= older.1[0] % 2;
+    agree(&format!("{name}, figure of a half"), &[sheet], [older, newer]);
+    let reports: [unsafe extern "C" fn(&[u8], &mut [u8], &mut [u64]) -> u64; 2] = [old::report, new::report];
+    let left = reports.map(|version| {
+        let mut out = vec![0xa5; ROOM];
+        let told = valued(|answer| unsafe { version(sheet, &mut out, answer) });
+        let mut words: Vec<Vec<u8>> = out.splitn(5, |&byte| byte == b' ').map(<[u8]>::to_vec).collect();
+        words.remove(3);
+        (told, words)
+    });
+    agree(&format!("{name}, report of a half"), &[sheet], left);
+}
+
+type Reader = unsafe extern "C" fn(&[u8], &mut [u64]) -> u64;
+
+/// A call that has values and writes nothing else, of one sheet.
+fn agree_on_values(name: &str, sheet: &[u8], versions: [Reader; 2]) {
+    let left = versions.map(|version| valued(|answer| unsafe { version(sheet, answer) }));
+    agree(name, &[sheet], left);
 }
 
 fn agree_on_product(name: &str, product: &[u8]) {
@@ -230,5 +265,9 @@ fn agree_on_random() {
 
 fn main() {
     let tables = VERSIONS.measured();
+    if !cfg!(halves_to_even) {
+        let halves = HALVES.load(Ordering::Relaxed);
+        println!("The older library rounds halves up: {halves} times an odd figure of an exact half is one less now, and an even one the same.");
+    }
     tables.iter().for_each(|table| VERSIONS.print(table));
 }

@@ -1,5 +1,5 @@
 //! The plain fast version against the plain slow one of tests/second, on random sheets, products and columns: the
-//! verdict with number and index, the sizes, the bytes written and every byte that must stay as it came.
+//! verdict with number and index, the sizes, the figure, the bytes written and every byte that must stay as it came.
 //!
 //! Usage: check-fast [SHEETS] [SEED]
 
@@ -45,17 +45,10 @@ fn main() {
         let verdict = plain::verdict(sheet);
         accepted += verdict.is_ok() as u64;
 
-        // A refused call leaves its answer as it came.
-        let meant = match &verdict {
-            Ok(v) => (0, [v.n as u64, v.m as u64, v.t as u64, v.s as u64]),
-            Err((number, index)) => (*number | (*index as u64) << 16, [u64::MAX; 4]),
-        };
-        let mut answer = [u64::MAX; 4];
-        let told = fast::check(sheet, &mut answer);
-        tally.check((told, answer) == meant, || {
-            format!("check, {}: {told} {answer:?}, not {meant:?}: {}", case.kind, hex(sheet))
-        });
-
+        let sizes = verdict.as_ref().map(|v| [v.n, v.m, v.t, v.s].map(|size| size as u64));
+        valued(&mut tally, &format!("check, {}", case.kind), sheet, sizes, fast::check);
+        let figure = verdict.as_ref().map(|v| [v.figure()]);
+        valued(&mut tally, &format!("figure, {}", case.kind), sheet, figure, fast::figure);
         let restated = verdict.map(|v| v.restated());
         let restate = |out: &mut [u8], answer: &mut [u64]| fast::restate(sheet, out, answer);
         written(&mut tally, &mut dice, case.kind, &[sheet], restated, restate);
@@ -75,6 +68,25 @@ fn main() {
     print!("{count} sheets, {accepted} of them accepted; as many products, {right} of them accepted; ");
     println!("as many columns, {joined} of them accepted");
     tally.finish()
+}
+
+/// A call that has N values and writes nothing else. A refused one leaves the array for them as it came.
+fn valued<const N: usize>(
+    tally: &mut Tally,
+    name: &str,
+    sheet: &[u8],
+    asked: Result<[u64; N], &plain::Refusal>,
+    call: fn(&[u8], &mut [u64]) -> u64,
+) {
+    let meant = match asked {
+        Ok(values) => (0, values),
+        Err(&refusal) => (fast::told(refusal), [u64::MAX; N]),
+    };
+    let mut answer = [u64::MAX; N];
+    let told = call(sheet, &mut answer);
+    tally.check((told, answer) == meant, || {
+        format!("{name}: {told} {answer:?}, not {meant:?}: {}", hex(sheet))
+    });
 }
 
 /// A call that writes: with an output that is long enough, the shortest one, and one that is a byte too short.

@@ -2,7 +2,7 @@
 //! Each column is executed by itself, since no component sees what the others do; then the columns are taken off step by step, each step
 //! a set: all actions that head every column of theirs.
 
-use crate::fast::{run, sections, size_told, write, Accepted, Machine, Refusal, Sections};
+use crate::fast::{run, sections, value_told, write, Accepted, Machine, Refusal, Sections};
 
 /// The most labels together.
 const MOST: usize = 1_024;
@@ -179,5 +179,5 @@ fn written(sheet: &[u8], bytes: &[u8], out: &mut [u8]) -> Result<usize, Refusal>
 /// The restated sheet that has these columns. 0, and `answer` gets the bytes written; or the refusal, and all is as it came.
 #[inline(never)]
 pub fn columns(sheet: &[u8], bytes: &[u8], out: &mut [u8], answer: &mut [u64]) -> u64 {
-    size_told(written(sheet, bytes, out), answer)
+    value_told(written(sheet, bytes, out), answer)
 }

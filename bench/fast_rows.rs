@@ -2,7 +2,7 @@
 //! heap. A row is one number of 128 bits, and what is asked of every entry is asked of 16 at a time. Small products have small tables,
 //! since filling large ones is most of their time.
 
-use crate::fast::{size_told, Refusal};
+use crate::fast::{value_told, Refusal};
 
 /// The number of a component that idles.
 const IDLE: u8 = 255;
@@ -282,5 +282,5 @@ fn written(product: &[u8], out: &mut [u8]) -> Result<usize, Refusal> {
 /// The sheet that a product becomes. 0, and `answer` gets the bytes written; or the refusal, and all is as it came.
 #[inline(never)]
 pub fn rows(product: &[u8], out: &mut [u8], answer: &mut [u64]) -> u64 {
-    size_told(written(product, out), answer)
+    value_told(written(product, out), answer)
 }

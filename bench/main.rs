@@ -36,6 +36,7 @@ use tables::{answered, Input, Kind, Row, Versions, KEPT, ROOM};
 extern "C" {
     fn oatmist_check(sheet: &[u8], answer: &mut [u64]) -> u64;
     fn oatmist_restate(sheet: &[u8], out: &mut [u8], answer: &mut [u64]) -> u64;
+    fn oatmist_figure(sheet: &[u8], answer: &mut [u64]) -> u64;
     fn oatmist_rows(product: &[u8], out: &mut [u8], answer: &mut [u64]) -> u64;
     fn oatmist_columns(sheet: &[u8], columns: &[u8], out: &mut [u8], answer: &mut [u64]) -> u64;
 }
@@ -52,6 +53,13 @@ const VERSIONS: Versions = Versions {
             |given, out| answered::<1>(|answer| fast::restate(&given.bytes, out, answer)),
         ],
         agree,
+    },
+    on_figures: Kind {
+        calls: &[
+            |given, _| answered::<1>(|answer| unsafe { oatmist_figure(&given.bytes, answer) }),
+            |given, _| answered::<1>(|answer| fast::figure(&given.bytes, answer)),
+        ],
+        agree: agree_on_figure,
     },
     on_products: Kind {
         calls: &[
@@ -75,24 +83,48 @@ const VERSIONS: Versions = Versions {
 
 /// Both versions on one sheet, the verdict by the slow one too; stops the run where they differ.
 fn agree(name: &str, given: &Input) {
-    let sheet = &given.bytes[..];
-    let verdict = plain::verdict(sheet);
-    let meant = match &verdict {
-        Ok(v) => (0, [v.n as u64, v.m as u64, v.t as u64, v.s as u64]),
-        Err((number, index)) => (*number | (*index as u64) << 16, [KEPT; 4]),
-    };
-    let (mut one, mut two) = ([KEPT; 4], [KEPT; 4]);
-    let proved = (unsafe { oatmist_check(sheet, &mut one) }, one);
-    let by_hand = (fast::check(sheet, &mut two), two);
-    assert_eq!(proved, meant, "{name}: the library's check");
-    assert_eq!(by_hand, meant, "{name}: the plain check");
+    let verdict = plain::verdict(&given.bytes).map_err(fast::told);
+    let meant = verdict.as_ref().map(|v| [v.n, v.m, v.t, v.s].map(|size| size as u64));
+    let calls: [Reader; 2] = [
+        |given, answer| unsafe { oatmist_check(&given.bytes, answer) },
+        |given, answer| fast::check(&given.bytes, answer),
+    ];
+    agree_valued(name, given, meant, calls);
 
-    let meant = verdict.map(|sheet| sheet.restated()).map_err(fast::told);
+    let meant = verdict.map(|sheet| sheet.restated());
     let calls: [Writer; 2] = [
         |given, out, answer| unsafe { oatmist_restate(&given.bytes, out, answer) },
         |given, out, answer| fast::restate(&given.bytes, out, answer),
     ];
     agree_written(name, given, &meant, calls);
+}
+
+/// Both versions of the figure of one sheet.
+fn agree_on_figure(name: &str, given: &Input) {
+    let meant = plain::figure(&given.bytes).map_err(fast::told);
+    let calls: [Reader; 2] = [
+        |given, answer| unsafe { oatmist_figure(&given.bytes, answer) },
+        |given, answer| fast::figure(&given.bytes, answer),
+    ];
+    agree_valued(name, given, meant.as_ref().map(|&figure| [figure]), calls);
+}
+
+/// Whose answer it is, in the order of the calls.
+const WHOSE: [&str; 2] = ["the library", "the plain version"];
+
+type Reader = fn(&Input, &mut [u64]) -> u64;
+
+/// Both versions of a call that has N values and writes nothing else, the proved one first.
+fn agree_valued<const N: usize>(name: &str, given: &Input, meant: Result<[u64; N], &u64>, calls: [Reader; 2]) {
+    let due = match meant {
+        Ok(values) => (0, values),
+        Err(number) => (*number, [KEPT; N]),
+    };
+    for (call, version) in calls.into_iter().zip(WHOSE) {
+        let mut answer = [KEPT; N];
+        let told = call(given, &mut answer);
+        assert_eq!((told, answer), due, "{name}: {version}, {N} values");
+    }
 }
 
 type Writer = fn(&Input, &mut [u8], &mut [u64]) -> u64;
@@ -110,7 +142,7 @@ fn agree_written(name: &str, given: &Input, meant: &Result<Vec<u8>, u64>, calls:
             Ok(_) => (13, [KEPT]),
             Err(number) => (*number, [KEPT]),
         };
-        for (call, version) in calls.into_iter().zip(["the library", "the plain version"]) {
+        for (call, version) in calls.into_iter().zip(WHOSE) {
             let (mut out, mut answer) = (vec![0xa5; room], [KEPT]);
             let told = call(given, &mut out, &mut answer);
             assert_eq!((told, answer), due, "{name}: {version} into {room}");

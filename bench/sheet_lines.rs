@@ -219,6 +219,30 @@ fn cases() -> Vec<(&'static str, Vec<Vec<u8>>)> {
     ]
 }
 
+/// The lines of figures among those above: typical ones, large ones, and the worst.
+const FIGURED: [&str; 9] = [
+    "smallest sheet, 26 bytes",
+    "Pair of the paper, 94 bytes",
+    "small: n 2-4, 5-20 actions",
+    "middle: n 5-9, 50-150 actions",
+    "largest, action in 2 components, steps of 8",
+    "largest, action in all 16, single steps",
+    "1,024 steps of action 63 alone, n 4, 1 state",
+    "64 steps of actions 48 to 63, n 16, 1 state",
+    "refused by 10 to 12, small",
+];
+
+/// The lines of the table of figures; the first has an exact half.
+pub fn figure_lines() -> Vec<Line> {
+    let mut half = internal(2, 1, false, 3);
+    half.steps.push(1);
+    let mut made = vec![("7 actions in 4 steps, an exact half".to_string(), vec![half.bytes()])];
+    let figured = cases().into_iter().filter(|(name, _)| FIGURED.contains(name));
+    made.extend(figured.map(|(name, given)| (name.to_string(), given)));
+    assert_eq!(made.len(), 1 + FIGURED.len());
+    made
+}
+
 /// Small tables with more and more actions.
 fn by_actions(actions: usize) -> Draft {
     let mut draft = Draft::empty(8);

@@ -48,9 +48,9 @@ impl From<(Vec<u8>, Vec<u8>)> for Input {
 
 pub type Call = fn(&Input, &mut [u8]) -> u64;
 
-/// What is done with one kind of input: sheets, products, or sheets with columns.
+/// What is done with one kind of input: sheets, sheets for their figure, products, or sheets with columns.
 pub struct Kind {
-    /// What is timed of both versions, in twos: the check and restating of a sheet, the rows of a product, or columns.
+    /// What is timed of both versions, in twos: the check and restating of a sheet, its figure, the rows of a product, or columns.
     pub calls: &'static [Call],
     /// Both versions on one input, named by its line; stops the run where they differ.
     pub agree: fn(&str, &Input),
@@ -63,6 +63,7 @@ pub struct Versions {
     /// The place of the one that the ratio tells of: above 1 it is faster than the other.
     pub ours: usize,
     pub on_sheets: Kind,
+    pub on_figures: Kind,
     pub on_products: Kind,
     /// Nothing where one of the versions has no such call.
     pub on_columns: Option<Kind>,
@@ -92,6 +93,7 @@ impl Versions {
         let mut made: Vec<Table> = sheets
             .map(|(name, lines)| Table::new(name, &["check", "restate"], &self.on_sheets, alone(lines)))
             .collect();
+        made.push(Table::new("Figures", &["figure"], &self.on_figures, alone(sheet_lines::figure_lines())));
         made.push(Table::new("Products", &["rows"], &self.on_products, alone(product_lines::lines())));
         if let Some(kind) = &self.on_columns {
             made.push(Table::new("Columns", &["columns"], kind, column_lines::lines()));

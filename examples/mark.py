@@ -20,8 +20,12 @@ class Refused(Exception):
 class Desk:
     """The calls as include/oatmist.h declares them: a slice is a pointer and a length."""
 
+    RULES = 2  # the first part of the version: by which rules the library answers
+
     def __init__(self, path):
         self.library = ctypes.CDLL(path)
+        if not hasattr(self.library, "oatmist_version") or self.library.oatmist_version() // 10000 != self.RULES:
+            raise OSError(f"{path}: this library answers by the rules of another version")
 
     def ask(self, call, *slices):
         """Makes a call with these bytes; gives back its one value."""

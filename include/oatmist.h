@@ -7,7 +7,8 @@
    What a call returns. 0: the call answered. Its values stand at the front of the array `answer` (or `ends`), as many as there is room
    for; the other entries keep their values. Not 0: the call refused, and every lent array is as it came. OATMIST_REFUSAL then has the
    number of the refusal, OATMIST_STEP the index of the step that it is about (from 0; 0 where it is about no step), and OATMIST_SHEET
-   which of two sheets it is about (0 for the first, 1 for the second; 0 where it is about both, or there is but one).
+   which of two sheets it is about (0 for the first, 1 for the second; 0 where it is about both, or there is but one). Of another
+   kind are `oatmist_leaner`, which returns nothing, and `oatmist_version`, which is given nothing and returns the version.
 
      uint64_t figure, told = oatmist_figure(sheet, length, &figure, 1);
      if (told)
@@ -19,7 +20,8 @@
    sheets too, as long as each has outputs of its own.
 
    Stack. OATMIST_STACK bytes serve every call. Measured on x86-64, for the smallest and the largest sheets, products and columns alike:
-   rows 3 KiB, check and process 8, end_sets and stuck 9, restate 10, figure, winner and leaner 16, columns 19, same_work 24, report 33. */
+   version 1 KiB, rows 3, check and process 8, end_sets and stuck 9, restate 10, figure, winner and leaner 16, columns 19, same_work 24,
+   report 33. */
 #ifndef OATMIST_H
 #define OATMIST_H
 
@@ -31,8 +33,16 @@ extern "C" {
 #endif
 
 /* The version, as in the file VERSION: as a text, and as a number that grows, 10000 times the first part, 100 times the second, the third. */
-#define OATMIST_VERSION "1.2.0"
-#define OATMIST_VERSION_NUMBER 10200
+#define OATMIST_VERSION "2.0.0"
+#define OATMIST_VERSION_NUMBER 20000
+
+/* The version of the library, as such a number; nothing is refused. OATMIST_VERSION_NUMBER is that of the header, so where
+
+     oatmist_version() != OATMIST_VERSION_NUMBER
+
+   header and library are of two versions. The first part tells by which rules a library answers: from 20000 on a figure that is an
+   exact half is rounded to the even number beside it, before that it was rounded up. A library before 20000 does not have this call. */
+uint64_t oatmist_version(void);
 
 /* Limits of a sheet, in bytes; other lengths are refused. A restated sheet is never longer than its sheet. One from columns may be, and
    an output of OATMIST_LONGEST_SHEET bytes always serves for it. */
@@ -95,7 +105,8 @@ uint64_t oatmist_process(const uint8_t *sheet, size_t sheet_length, uint64_t *an
    were written. An output that is too short is refusal 13. */
 uint64_t oatmist_restate(const uint8_t *sheet, size_t sheet_length, uint8_t *out, size_t out_length, uint64_t *answer, size_t answer_length);
 
-/* The concurrency figure. One value. */
+/* The concurrency figure: ten times the actions, divided by the number of restated steps and rounded to a whole number, an exact half to the
+   even one: so 5 actions in 4 steps make 12, and 7 make 18. Without steps it is 0. One value. */
 uint64_t oatmist_figure(const uint8_t *sheet, size_t sheet_length, uint64_t *answer, size_t answer_length);
 
 /* Whether the sheet is stuck: after the last step no action is enabled. One value: 1 for yes, 0 for no. */

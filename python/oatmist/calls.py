@@ -1,7 +1,8 @@
 """The proved calls: every call of include/oatmist.h as a function that gives its value, or raises `Refusal`.
 
 A sheet, a product or columns are any bytes: a bytes, a bytearray or a memoryview. The functions keep nothing between calls and may be
-called from several threads; ctypes lets other threads run meanwhile. The library is looked for at the first call (`library.find`).
+called from several threads; ctypes lets other threads run meanwhile. The library is looked for at the first call (`library.find`). One of
+another version than this package is a `Fault`, whatever the call: it may answer by other rules.
 
     sizes = check(sheet)                 # Sizes(components=2, actions=3, transitions_at=32, steps_at=52)
     sets = end_sets(sheet)               # [[1], [0]]: the states of each component
@@ -14,6 +15,7 @@ from typing import NamedTuple
 from . import library
 from .faults import Fault
 from .model import bits
+from .version import dotted, version as own_version
 
 SHORTEST_SHEET, LONGEST_SHEET = 26, 16650
 COMPONENTS = 16
@@ -57,17 +59,16 @@ TWO_SHEETS = [IN, SIZE, IN, SIZE, OUT, SIZE]
 ARGUMENTS = {
     "check": ONE_SHEET, "end_sets": ONE_SHEET, "process": ONE_SHEET, "figure": ONE_SHEET, "stuck": ONE_SHEET,
     "restate": WITH_OUTPUT, "report": WITH_OUTPUT, "rows": WITH_OUTPUT, "same_work": TWO_SHEETS, "winner": TWO_SHEETS,
-    "columns": [IN, SIZE, *WITH_OUTPUT], "leaner": [IN, SIZE, IN, SIZE, ctypes.POINTER(Part)],
+    "columns": [IN, SIZE, *WITH_OUTPUT], "leaner": [IN, SIZE, IN, SIZE, ctypes.POINTER(Part)], "version": [],
 }
 
 
-@functools.lru_cache(maxsize=None)
-def function(name):
-    """A call of the library, with its types."""
+def typed(desk, name):
+    """A call of an opened library, with its types."""
     try:
-        call = getattr(opened(), "oatmist_" + name)
+        call = getattr(desk, "oatmist_" + name)
     except AttributeError:
-        raise Fault(f"the library has no call oatmist_{name}: it belongs to another version of the desk", path=opened()._name)
+        raise Fault(f"the library has no call oatmist_{name}: it belongs to another version of the desk", path=desk._name)
     call.argtypes = ARGUMENTS[name]
     call.restype = None if name == "leaner" else ctypes.c_uint64
     return call
@@ -75,8 +76,18 @@ def function(name):
 
 @functools.lru_cache(maxsize=None)
 def opened():
-    """The library, opened once."""
-    return library.opened()
+    """The library, opened once; its version is our own."""
+    desk, own = library.opened(), own_version()
+    told = dotted(typed(desk, "version")())
+    if told != own:
+        raise Fault(f"the library has version {told}, not {own}: it belongs to another version of the desk", path=desk._name)
+    return desk
+
+
+@functools.lru_cache(maxsize=None)
+def function(name):
+    """A call of the library."""
+    return typed(opened(), name)
 
 
 def plain(sheet):
@@ -99,6 +110,11 @@ def written(name, room, *given):
     out = ctypes.create_string_buffer(max(room, 1))
     length, = ask(name, 1, *given, lent=[out])
     return out.raw[:length]
+
+
+def version():
+    """The version of the library, as a number: 20000 for 2.0.0."""
+    return function("version")()
 
 
 def check(sheet):

@@ -32,22 +32,36 @@ static const struct sheet smallest = {small, sizeof small}, nothing = {NULL, 0},
 #define PAIR_STEPS_AT 52
 #define PAIR_ROOM 128
 
-/* X1: Pair of document 01 in the lent bytes: two components, three actions, and steps by their sets of actions. */
+/* A sheet in the lent bytes: the tables, steps by their sets of actions, which are below 8, and the trailer. */
+static struct sheet with_steps(uint8_t *bytes, const uint8_t *tables, size_t length, size_t count, const uint8_t *steps,
+                               const uint8_t *trailer) {
+    struct sheet made;
+    size_t k;
+    memcpy(bytes, tables, length);
+    memset(bytes + length, 0, 8 * count);
+    for (k = 0; k < count; k++)
+        bytes[length + 8 * k] = steps[k];
+    memcpy(bytes + length + 8 * count, trailer, 10);
+    made.bytes = bytes;
+    made.length = length + 8 * count + 10;
+    return made;
+}
+
+/* X1: Pair of document 01: two components, three actions. */
 static struct sheet pair(uint8_t *bytes, size_t count, const uint8_t *steps) {
     static const uint8_t tables[PAIR_STEPS_AT] = {
         2, 0, 0, 0, 1, 0, 0, 0, 5, 0, 0, 0, 0, 0, 0, 0, 3, 0, 0, 0, 1, 0, 0, 0, 6, 0, 0, 0, 0, 0, 0, 0,
         0, 0, 0, 1, 0, 1, 2, 0, 1, 0, 1, 1, 1, 1, 255, 2, 1, 2, 2, 0};
     static const uint8_t trailer[10] = {0, 0, 32, 0, PAIR_STEPS_AT, 0, 2, 3, 0x46, 0x53};
-    struct sheet made;
-    size_t k;
-    memcpy(bytes, tables, PAIR_STEPS_AT);
-    memset(bytes + PAIR_STEPS_AT, 0, 8 * count);
-    for (k = 0; k < count; k++)
-        bytes[PAIR_STEPS_AT + 8 * k] = steps[k];
-    memcpy(bytes + PAIR_STEPS_AT + 8 * count, trailer, 10);
-    made.bytes = bytes;
-    made.length = PAIR_STEPS_AT + 8 * count + 10;
-    return made;
+    return with_steps(bytes, tables, sizeof tables, count, steps, trailer);
+}
+
+/* Two components of one state with nothing in common: the one loops by action 0, the other by action 1. */
+static struct sheet clocks(uint8_t *bytes, size_t count, const uint8_t *steps) {
+    static const uint8_t tables[40] = {1, 0, 0, 0, 1, 0, 0, 0, 1, 0, 0, 0, 0, 0, 0, 0, 1, 0, 0, 0, 1, 0, 0, 0, 2, 0, 0, 0, 0, 0, 0, 0,
+                                       0, 0, 0, 0, 1, 0, 1, 0};
+    static const uint8_t trailer[10] = {0, 0, 32, 0, sizeof tables, 0, 2, 2, 0x46, 0x53};
+    return with_steps(bytes, tables, sizeof tables, count, steps, trailer);
 }
 
 /* ---- the calls ---- */
@@ -178,6 +192,23 @@ static void accepted(void) {
     for (room = 0; room <= sizeof text + 2; room++)
         judge("Pair", REPORT, sheet, nothing, room, room < text_length ? OATMIST_REFUSAL_OUTPUT : 0, &text_length, text, sizeof text - 1);
 }
+
+/* A4, P3: exact halves: 5 actions in 4 restated steps, and 7, each given as a step more. */
+static void halves(void) {
+    static const char five_text[] = "accepted 5 4 12 0\nstep 0 1\nstep 0\nstep 0\nstep 0\nend 0 0\nend 1 0\n";
+    static const char seven_text[] = "accepted 5 4 18 0\nstep 0 1\nstep 0 1\nstep 0 1\nstep 0\nend 0 0\nend 1 0\n";
+    const uint8_t five[5] = {1, 1, 1, 1, 2}, seven[5] = {1, 3, 3, 1, 2};
+    const uint64_t five_length = sizeof five_text - 1, seven_length = sizeof seven_text - 1;
+    uint8_t b1[PAIR_ROOM], b2[PAIR_ROOM];
+    const struct sheet one = clocks(b1, 5, five), two = clocks(b2, 5, seven);
+    gives_one("5 actions in 4 steps", FIGURE, one, 12);
+    gives_one("7 actions in 4 steps", FIGURE, two, 18);
+    judge("5 actions in 4 steps", REPORT, one, nothing, OUT_ROOM, 0, &five_length, five_text, sizeof five_text - 1);
+    judge("7 actions in 4 steps", REPORT, two, nothing, OUT_ROOM, 0, &seven_length, seven_text, sizeof seven_text - 1);
+}
+
+/* O10: the library has the version of the header. */
+static void same_version(void) { expect(oatmist_version() == OATMIST_VERSION_NUMBER, "version", "that of the header"); }
 
 /* R1, R2, R10 to R12: refused sheets. */
 static void turned_down(void) {
@@ -456,7 +487,9 @@ static void longest_columns(void) {
 
 int main(void) {
     taken_apart();
+    same_version();
     accepted();
+    halves();
     turned_down();
     pairs();
     products();

@@ -113,7 +113,7 @@ static void make_product(uint8_t *product, size_t components, size_t states, siz
             *at++ = (uint8_t)(same && j + 1 < components ? 0 : (g + j) % transitions);
 }
 
-/* ---- the calls: each on a sheet, with or without columns, or a product; those on two sheets on the same one twice ---- */
+/* ---- the calls: each on a sheet, with or without columns, or a product; those on two sheets on one twice; version on nothing ---- */
 
 /* What is lent to a call. */
 struct lent {
@@ -143,6 +143,11 @@ static uint64_t leaner(const struct given *given, struct lent *lent) {
     oatmist_leaner(given->bytes, given->length, given->bytes, given->length, &lent->part);
     return 0;
 }
+static uint64_t version(const struct given *given, struct lent *lent) {
+    (void)given;
+    lent->values[0] = oatmist_version();
+    return 0;
+}
 
 /* Each call, the KiB of stack that oatmist.h says it takes at most, and what it is given. */
 static const struct {
@@ -161,7 +166,8 @@ static const struct {
              {"winner", winner, 16, sheets},
              {"leaner", leaner, 16, sheets},
              {"rows", rows, 3, products},
-             {"columns", columns, 19, sheets}};
+             {"columns", columns, 19, sheets},
+             {"version", version, 1, sheets}};
 #define CALLS (sizeof calls / sizeof calls[0])
 
 /* ---- the stack: D1, every call ends ---- */

@@ -11,13 +11,14 @@ import sys
 import tempfile
 import unittest
 from typing import NamedTuple
+from unittest import mock
 
 TOP = os.path.dirname(os.path.dirname(os.path.dirname(os.path.abspath(__file__))))
 COMMAND = os.path.join(TOP, "oatmist")
 SHEETS = os.path.join(TOP, "sheets")
 sys.path.insert(0, os.path.join(TOP, "python"))
 
-from oatmist import cli
+from oatmist import calls, cli, library
 from oatmist.faults import Fault, Unfit
 from oatmist.model import INTERNAL, Component, Execution, System
 
@@ -43,6 +44,20 @@ class Stream(io.TextIOWrapper):
     def kept(self):
         self.flush()
         return self.buffer.getvalue().decode("utf-8", "surrogateescape")
+
+
+class Desk:
+    """The library, but with this number as its version, or without one of its calls (O10)."""
+
+    def __init__(self, number=None, without=""):
+        self._name, self.real, self.without = "other.so", library.opened(), "oatmist_" + without
+        if number is not None:
+            self.oatmist_version = lambda: number
+
+    def __getattr__(self, name):
+        if name == self.without:
+            raise AttributeError(name)
+        return getattr(self.real, name)
 
 
 class Case(unittest.TestCase):
@@ -76,6 +91,15 @@ class Case(unittest.TestCase):
             self.assertIn(message, found.exception.message)
             self.assertEqual(found.exception.line, line, message)
             self.assertLess(len(str(found.exception)), 1300)
+
+    def finds(self, desk):
+        """From now on the command finds this library, until the test ends."""
+        found = mock.patch("oatmist.library.opened", return_value=desk)
+        found.start()
+        self.addCleanup(found.stop)
+        for kept in (calls.opened, calls.function):
+            kept.cache_clear()
+            self.addCleanup(kept.cache_clear)
 
     def call(self, *words):
         """The command in this process."""

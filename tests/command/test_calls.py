@@ -35,7 +35,7 @@ class Header(common.Case):
     def test_arguments(self):
         for name, given in re.findall(r"^(?:uint64_t|void) oatmist_(\w+)\(([^)]*)\)", self.header, re.M):
             kinds = {"const uint8_t *": calls.IN, "uint8_t *": calls.OUT, "uint64_t *": calls.OUT, "size_t ": calls.SIZE}
-            declared = [re.sub(r"\w+$", "", " ".join(part.split())) for part in given.split(",")]
+            declared = [re.sub(r"\w+$", "", " ".join(part.split())) for part in given.split(",") if part != "void"]
             for kind, due in zip(declared, calls.ARGUMENTS[name]):
                 self.assertEqual(kinds.get(kind, calls.ARGUMENTS["leaner"][-1]), due, name)
             self.assertEqual(len(declared), len(calls.ARGUMENTS[name]), name)

@@ -299,16 +299,13 @@ class Refused(Quiet):
         self.left("columns.txt", "system.txt", "in", "whole.txt")
 
     def test_a_library_without_the_call(self):
-        """The desk of another version is no answer, in a sitting neither."""
+        """The desk is asked for the call before it answers anything, in a sitting too."""
         path = self.write("whole.txt", SYSTEM + GOOD)
         os.mkdir("in")
         self.write("in/a.txt", GOOD)
-        old = mock.Mock(spec=["_name", *(f"oatmist_{name}" for name in calls.ARGUMENTS if name != "columns")], _name="old.so")
-        with mock.patch("oatmist.calls.opened", return_value=old):
-            calls.function.cache_clear()
-            self.addCleanup(calls.function.cache_clear)
-            for words in (("mark", path), ("class", path, "in")):
-                self.told(self.call(*words), 2, "old.so: the library has no call oatmist_columns: it belongs to another version of the desk")
+        self.finds(common.Desk(without="columns"))
+        for words in (("mark", path), ("class", path, "in")):
+            self.told(self.call(*words), 2, "other.so: the library has no call oatmist_columns: it belongs to another version of the desk")
 
 
 class Verbs(Quiet):

@@ -41,7 +41,7 @@ class Guides(common.Case):
 
     def test_lecturers(self):
         found = list(sessions("docs/LECTURERS.md"))
-        self.assertEqual(len(found), 18)
+        self.assertEqual(len(found), 21)
         os.makedirs(os.path.join(common.TOP, "target"), exist_ok=True)
         for command, printed in found:
             done = subprocess.run(["bash", "-c", command], cwd=common.TOP, stdout=subprocess.PIPE, stderr=subprocess.STDOUT, check=False)

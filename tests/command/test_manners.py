@@ -319,7 +319,7 @@ class Places(Quiet):
         with open("/proc/self/maps", encoding="utf-8") as file:
             other = next(line.split()[-1] for line in file if "libc.so" in line)
         self.told(self.shell("OATMIST_LIBRARY=$other $oatmist mark $PAIR", other=other), 2,
-                  f"{other}: the library has no call oatmist_restate: it belongs to another version of the desk")
+                  f"{other}: the library has no call oatmist_version: it belongs to another version of the desk")
 
     def test_module(self):
         answer = subprocess.run(["python3", "-m", "oatmist", "mark", PAIR], stdout=subprocess.PIPE,

@@ -271,10 +271,8 @@ class Refused(Quiet):
 
     def test_a_library_without_the_call(self):
         path = self.write("product.txt", TWO)
-        with mock.patch("oatmist.calls.opened", return_value=mock.Mock(spec=["_name"], _name="old.so")):
-            calls.function.cache_clear()
-            self.addCleanup(calls.function.cache_clear)
-            self.told(self.call("mark", path), 2, "old.so: the library has no call oatmist_rows: it belongs to another version of the desk")
+        self.finds(common.Desk(without="rows"))
+        self.told(self.call("mark", path), 2, "other.so: the library has no call oatmist_rows: it belongs to another version of the desk")
 
 
 class Verbs(Quiet):

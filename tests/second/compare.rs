@@ -2,7 +2,8 @@
 //! the end sets, the process check, the restated bytes, the figure, stuck and the printed text; and
 //! on random pairs: same work, which sheet is leaner, and the part that is handed back; and on random
 //! products: the sheet that each becomes; and on random columns: the restated sheet that has them. Every
-//! entry of what was lent is compared too: a refused call must leave all of it as it came.
+//! entry of what was lent is compared too: a refused call must leave all of it as it came. And the version
+//! that the library tells, against the file VERSION.
 //!
 //! Usage: compare [SHEETS] [SEED] [ENOUGH], where it stops after ENOUGH that differ
 //!
@@ -60,6 +61,8 @@ extern "C" {
     fn oatmist_rows(product: &[u8], out: &mut [u8], answer: &mut [u64]) -> u64;
     /// The bytes written.
     fn oatmist_columns(sheet: &[u8], columns: &[u8], out: &mut [u8], answer: &mut [u64]) -> u64;
+    /// The version as a number. It is given nothing, and refuses nothing.
+    fn oatmist_version() -> u64;
 }
 
 /// A refusal as a call returns it: its number in bits 0 to 7, the sheet in bits 8 to 15, the step
@@ -97,6 +100,9 @@ fn main() {
         seen: 0,
         enough: argument(3, 10),
     };
+    if show(&mut differing, "none, the version", &[], &compare_version(&mut tally)) {
+        tally.finish()
+    }
     // Products and columns have dice of their own.
     let (mut own, mut others) = (Dice::new(seed + 1), Dice::new(seed + 2));
     for number in 0..count as usize {
@@ -165,6 +171,14 @@ fn show(differing: &mut Differing, kind: &str, given: &[&[u8]], differences: &[S
         println!("{} sheets, pairs, products or columns differ; stopped", differing.seen);
     }
     stopped
+}
+
+/// O10: the version; the text of what differs.
+fn compare_version(tally: &mut Tally) -> Vec<String> {
+    let mut differences = Vec::new();
+    let (told, due) = (unsafe { oatmist_version() }, plain::version());
+    note(tally, &mut differences, told == due, || format!("version: {told}, not {due}"));
+    differences
 }
 
 // ---------------------------------------------------------------------------------------------
@@ -562,6 +576,9 @@ const PAIRS: &[&str] = &[
     "pair, second refused at a later step",
 ];
 const FORMED: [&str; 2] = ["accepted, in normal form", "accepted, not in normal form"];
+/// A4: sheets whose figure is rounded from an exact half, by the way that it goes.
+const HALF: [&str; 2] = ["accepted, an exact half rounded down", "accepted, an exact half rounded up"];
+const LONG_HALF: &str = "accepted, an exact half of 100 restated steps or more";
 const STEP: [&str; 2] = [
     "refused by 10, 11 or 12 at step 0",
     "refused by 10, 11 or 12 at a later step",
@@ -643,6 +660,8 @@ impl Classes {
         }
         names.extend(FORMED.map(String::from));
         names.extend(STUCK.map(String::from));
+        names.extend(HALF.map(String::from));
+        names.push(LONG_HALF.into());
         names.extend(PAIRS.iter().map(|name| name.to_string()));
         names.extend(compare_rows::class_names());
         names.extend(compare_columns::class_names());
@@ -685,6 +704,18 @@ impl Classes {
         }
         self.add(FORMED[if sheet.process().is_none() { 0 } else { 1 }]);
         self.add(STUCK[usize::from(sheet.stuck())]);
+        if sheet.is_half() {
+            self.count_half(sheet);
+        }
+    }
+
+    /// Which way the half goes, and whether there are many steps.
+    fn count_half(&mut self, sheet: &plain::Sheet) {
+        let (actions, steps) = sheet.work();
+        self.add(HALF[usize::from(sheet.figure() * steps > 10 * actions)]);
+        if steps >= 100 {
+            self.add(LONG_HALF);
+        }
     }
 
     /// What a pair is, by the second implementation.

@@ -206,20 +206,48 @@ pub extern "C" fn oatmist_restate(sheet: &[u8], out: &mut [u8], answer: &mut [u6
     answered(&[restated.len() as u64], answer)
 }
 
+/// Whether a bug takes the upper neighbour of an exact half; nothing where there is no such bug.
+fn upper(below: u64, actions: u64) -> Option<bool> {
+    if bug("figure-halves-up") {
+        return Some(true);
+    }
+    if bug("figure-halves-down") {
+        return Some(false);
+    }
+    if bug("figure-halves-to-odd") {
+        return Some(below % 2 == 0);
+    }
+    if bug("figure-of-the-evenness-of-actions") {
+        return Some(actions % 2 == 1);
+    }
+    None
+}
+
+/// Ten times the actions for each restated step, rounded down.
+fn rounded_down(sheet: &plain::Sheet) -> u64 {
+    let (actions, steps) = sheet.work();
+    if steps == 0 { 0 } else { 10 * actions / steps }
+}
+
+/// The figure, or a wrong one.
+fn figure(sheet: &plain::Sheet) -> u64 {
+    let (actions, below) = (sheet.work().0, rounded_down(sheet));
+    if bug("figure-of-steps-as-given") {
+        return plain::figure_of(actions, sheet.steps.len() as u64);
+    }
+    if bug("figure-rounded-down") {
+        return below;
+    }
+    match upper(below, actions) {
+        Some(upper) if sheet.is_half() => below + u64::from(upper),
+        _ => sheet.figure(),
+    }
+}
+
 #[no_mangle]
 pub extern "C" fn oatmist_figure(sheet: &[u8], answer: &mut [u64]) -> u64 {
     match verdict(sheet) {
-        Ok(sheet) => {
-            let actions = plain::flat(&sheet.steps).len() as u64;
-            let value = match (sheet.restated_steps().len(), sheet.steps.len()) {
-                (steps, _) if bug("figure-rounded-down") && steps > 0 => 10 * actions / steps as u64,
-                (_, steps) if bug("figure-of-steps-as-given") && steps > 0 => {
-                    (20 * actions / steps as u64 + 1) / 2
-                }
-                _ => sheet.figure(),
-            };
-            answered(&[value], answer)
-        }
+        Ok(sheet) => answered(&[figure(&sheet)], answer),
         Err(refusal) => refused(refusal, 0, answer),
     }
 }
@@ -237,11 +265,24 @@ pub extern "C" fn oatmist_stuck(sheet: &[u8], answer: &mut [u64]) -> u64 {
     }
 }
 
+/// The text with the upper neighbour for F where that is an exact half.
+fn halves_up(bytes: &[u8], text: String) -> String {
+    let Some(sheet) = plain::verdict(bytes).ok().filter(plain::Sheet::is_half) else {
+        return text;
+    };
+    let mut words: Vec<String> = text.splitn(5, ' ').map(String::from).collect();
+    words[3] = (rounded_down(&sheet) + 1).to_string();
+    words.join(" ")
+}
+
 #[no_mangle]
 pub extern "C" fn oatmist_report(sheet: &[u8], out: &mut [u8], answer: &mut [u64]) -> u64 {
     let mut text = plain::report(sheet);
     if bug("report-without-last-feed") {
         text.pop();
+    }
+    if bug("report-halves-up") {
+        text = halves_up(sheet, text);
     }
     let spare = if bug("report-needs-spare") { 1 } else { 0 };
     if out.len() < text.len() + spare {
@@ -327,4 +368,13 @@ pub extern "C" fn oatmist_leaner<'a>(first: &'a [u8], second: &'a [u8], part: &m
         Err(_) if bug("part-kept") => {}
         Err(_) => *part = &first[..0],
     }
+}
+
+#[no_mangle]
+pub extern "C" fn oatmist_version() -> u64 {
+    let version = plain::version();
+    if bug("version-of-one-before") {
+        return version - 1;
+    }
+    version
 }

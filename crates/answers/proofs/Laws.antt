@@ -29,9 +29,10 @@ use Rattle.sheet.proofs.Limits.{limits-order}
 use Rattle.sheet.proofs.Verdicts.{verdict-first, verdict-only, accepted-exact}
 use Rattle.answers.specs.Outcomes.{given, after}
 use Rattle.answers.specs.Ends.{endSet, endSets}
-use Rattle.answers.specs.Restated.{restated}
+use Rattle.answers.specs.Restated.{restatedSteps, restated}
 use Rattle.traces.specs.Offences.{firstOffence}
 use Rattle.answers.specs.ProcessCheck.{processCheck}
+use Rattle.answers.specs.Figure.{IsFigure, figure, figureOutcome}
 use Rattle.answers.specs.SheetExecution.{systemIn, actionSets, ExecutionTo, ProcessIn}
 use Rattle.answers.specs.Laws.{RefusalLaws, OutputLaws, ExecutionLaws, RestatedLaws, AnswerLaws}
 use Rattle.answers.proofs.Normal.{normal-ends, normal-process}
@@ -43,7 +44,7 @@ use Rattle.traces.proofs.Offences.{offence-none, offence-first}
 use Rattle.answers.proofs.RefusalsDue.{sheet-refuses}
 use Rattle.answers.proofs.TwoSheets.{two-refuses, work-same, work-other}
 use Rattle.answers.proofs.Leaner.{winner-first, winner-second, leaner-first, leaner-second, leaner-refused, section-whole}
-use Rattle.answers.proofs.Figure.{figure-rounds, figure-none}
+use Rattle.answers.proofs.Figure.{figure-exact, figure-none, nearest-of-all, twelve-and-a-half, seventeen-and-a-half}
 use Rattle.answers.proofs.Stuck.{stuck-exact}
 use Rattle.answers.proofs.Reports.{report-refused, report-accepted}
 
@@ -173,6 +174,13 @@ process-yes b =
       λ h. answered (verdict b) offence none .1 (h .0, none-left .1 (process-iff b (h .0) .0 (h .1 .condition))),
     )
 
+figure-told : (b : List ℕ) (f : ℕ) → (figureOutcome b ≡ given f) ↔ (Accepted b × IsFigure b f)
+unfolding figureOutcome
+figure-told b f = (
+  λ e. let h = answered (verdict b) (figure b) f .0 e in (h .0, figure-exact b f .0 (sym (h .1))),
+  λ h. answered (verdict b) (figure b) f .1 (h .0, sym (figure-exact b f .1 (h .1))),
+)
+
 -- N7, A1 to A5, P2 to P5: the other answers
 pub answer-laws : AnswerLaws
 unfolding processCheck
@@ -193,9 +201,13 @@ answer-laws =
       second-section = leaner-second;
       no-section = leaner-refused;
       section-between = section-whole;
-      figure-nearest = figure-rounds;
+      figure-exactly = figure-exact;
+      figure-given = figure-told;
+      distance-exactly = λ x d. (omega arith, omega arith);
+      figure-nearest = λ b g some other.
+          nearest-of-all (length (flat (steps b))) (length (restatedSteps b)) (figure b) g some (figure-exact b (figure b) .0 refl) other;
       figure-zero = figure-none;
-      figure-printed = refl;
+      figure-printed = (twelve-and-a-half, seventeen-and-a-half);
       stuck-exactly = stuck-exact;
       refused-text = report-refused;
       accepted-text = report-accepted;

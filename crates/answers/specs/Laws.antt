@@ -2,7 +2,7 @@
 -- crates above it). Each law says again, in other words, what a definition computes. `proofs/Laws.antt` proves each record.
 -- Assumes nothing.
 use mathlib.Core.Path.{_≡_}
-use mathlib.Core.Logic.{_↔_}
+use mathlib.Core.Logic.{_≢_, _↔_, _⊎_}
 use mathlib.Core.Bool.{true, false}
 use mathlib.Core.List.{List, [], _∷_, _++_, map}
 use mathlib.Core.Option.{none, some}
@@ -32,7 +32,7 @@ use Rattle.answers.specs.ProcessCheck.{processCheck}
 use Rattle.answers.specs.TwoSheets.{ofTwo}
 use Rattle.answers.specs.SameWork.{sameWork}
 use Rattle.answers.specs.Leaner.{winner, stepSection, leaner}
-use Rattle.answers.specs.Figure.{quotient, figure}
+use Rattle.answers.specs.Figure.{distance, FigureOf, IsFigure, figure, figureOutcome}
 use Rattle.answers.specs.Stuck.{stuck}
 use Rattle.answers.specs.Report.{refusedWord, line, summaryLine, stepLines, endLines, report, reporting}
 use Rattle.answers.specs.FirstRefusal.{SheetRefusal, RestateRefusal, ReportRefusal, TwoSheetRefusal, AtMostOne, RefusesBy}
@@ -125,15 +125,24 @@ pub record AnswerLaws : Type 1 where
   pub no-section : (b c : List ℕ) (k i s : ℕ) → winner b c ≡ refused k i s → leaner b c ≡ []
   -- A2: the step section stands between the bytes before S and the trailer
   pub section-between : (b : List ℕ) → Accepted b → front b ++ (stepSection b ++ drop (length b - trailerSize) b) ≡ b
-  -- A4: the figure, to the nearest whole number, a half upwards: with a actions in k steps the figure q has
-  -- q ≤ 10 * a / k + 1 / 2 < q + 1, here times 2 * k
-  pub figure-nearest : (b : List ℕ) → 0 < length (restatedSteps b)
-      → (2 * length (restatedSteps b) * figure b ≤ 20 * length (flat (steps b)) + length (restatedSteps b))
-      × (20 * length (flat (steps b)) + length (restatedSteps b) < 2 * length (restatedSteps b) * (figure b + 1))
+  -- A4: there is exactly one figure, and it is the computed one
+  pub figure-exactly : (b : List ℕ) (f : ℕ) → (f ≡ figure b) ↔ IsFigure b f
+  -- A4: it is what an accepted sheet gets
+  pub figure-given : (b : List ℕ) (f : ℕ) → (figureOutcome b ≡ given f) ↔ (Accepted b × IsFigure b f)
+  -- G4: a distance is what has to be added to the less number
+  pub distance-exactly : (x d : ℕ) → (distance x (x + d) ≡ d) × (distance (x + d) x ≡ d)
+  -- A4: of a actions in s restated steps, every other number g is farther off than the figure f; or just as far, and then f is even
+  pub figure-nearest : (b : List ℕ) (g : ℕ) →
+      let a = length (flat (steps b)) in
+      let s = length (restatedSteps b) in
+      let f = figure b in
+      0 < s → g ≢ f
+      → (distance (10 * a) (f * s) < distance (10 * a) (g * s))
+      ⊎ ((distance (10 * a) (f * s) ≡ distance (10 * a) (g * s)) × ((half : ℕ) × (f ≡ 2 * half)))
   -- A4: without steps it is 0
   pub figure-zero : (b : List ℕ) → length (restatedSteps b) ≡ 0 → figure b ≡ 0
-  -- A4: the worked number
-  pub figure-printed : quotient 5 4 ≡ 13
+  -- A4: the worked numbers: 12.5 goes down, 17.5 goes up
+  pub figure-printed : FigureOf 5 4 12 × FigureOf 7 4 18
   -- A5: stuck exactly where the end sets enable none of the actions
   pub stuck-exactly : (b : List ℕ) → (stuck b ≡ true) ↔ ((a : ℕ) → a < actionCount b → enabled (tables b) (endSet b) a ≡ false)
   -- P2 to P5: what is printed: number and step index of a refusal; else the line of four numbers, the restated steps, the end sets

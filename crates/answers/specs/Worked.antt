@@ -127,6 +127,9 @@ worked =
     ∷ row (sizesTold refusedSheet) (refused 12 1 0)
     -- A4: the figure: four actions in three steps
     ∷ row (numberTold (figureOutcome workedSheet)) (given (13 ∷ []))
+    -- A4: five actions in four steps, and seven: each half goes to the even number
+    ∷ row (numberTold (figureOutcome (loopSheet (0b1 ∷ 0b1 ∷ 0b1 ∷ 0b1 ∷ 0b10 ∷ [])))) (given (12 ∷ []))
+    ∷ row (numberTold (figureOutcome (loopSheet (0b11 ∷ 0b11 ∷ 0b11 ∷ 0b1 ∷ [])))) (given (18 ∷ []))
     ∷ row (numberTold (figureOutcome refusedSheet)) (refused 12 1 0)
     -- A5: stuck
     ∷ row (bitTold (stuckOutcome workedSheet)) (given (0 ∷ []))

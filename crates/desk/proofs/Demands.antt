@@ -32,7 +32,7 @@ use Rattle.answers.specs.Stuck.{stuck, stuckOutcome}
 use Rattle.answers.specs.FirstRefusal.{SheetRefusal, RestateRefusal, SizesOr}
 use Rattle.answers.specs.SheetExecution.{systemIn, actionSets, ProcessIn}
 use Rattle.answers.proofs.Passing.{told-accepted}
-use Rattle.answers.proofs.Told.{is-given, refused-only, number-only, offence-exactly}
+use Rattle.answers.proofs.Told.{is-given, refused-only, number-only, number-exactly, offence-exactly}
 use Rattle.answers.proofs.LentOutput.{given-long, given-length, given-output, given-written}
 use Rattle.answers.proofs.FirstRefusal.{restate-refuses, process-refuses, figure-refuses, stuck-refuses, sizes-or, number-or}
 use Rattle.answers.proofs.Laws.{refusal-laws, output-laws, execution-laws, restated-laws, answer-laws}
@@ -189,10 +189,6 @@ call-demand3 =
 
 -- ---- the other calls
 
-figure-given : (b : List ℕ) → Accepted b → figureOutcome b ≡ given (figure b)
-unfolding figureOutcome
-figure-given b acc = rw acc
-
 stuck-given : (b : List ℕ) → Accepted b → stuckOutcome b ≡ given (stuck b)
 unfolding stuckOutcome
 stuck-given b acc = rw acc
@@ -212,6 +208,7 @@ answer-demand =
       offends-first = λ b r i c. Iff·trans (offence-exactly r (processCheck b) c (some i)) (answer-laws .offends-first b i);
       ends-told = sets-at;
       ends-refused = no-sets;
-      figure-told = λ b r c acc. is-given r (figure b) (c ∙ ap (values oneValue) (figure-given b acc));
+      figure-told = λ b r f c. Iff·trans (number-exactly r (figureOutcome b) c f) (answer-laws .figure-given b f);
+      figure-one = λ b. (figure b, answer-laws .figure-exactly b (figure b) .0 refl, λ g h. answer-laws .figure-exactly b g .1 h);
       stuck-told = λ b r c acc. is-given r (bit (stuck b)) (c ∙ ap (values (λ t. oneValue (bit t))) (stuck-given b acc));
     }

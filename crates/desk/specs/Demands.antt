@@ -22,7 +22,7 @@ use Rattle.answers.specs.declared.Sizes.{Sizes}
 use Rattle.answers.specs.declared.Answer.{Answer}
 use Rattle.answers.specs.Outcomes.{bit}
 use Rattle.answers.specs.Ends.{endSet}
-use Rattle.answers.specs.Figure.{figure}
+use Rattle.answers.specs.Figure.{IsFigure}
 use Rattle.answers.specs.Stuck.{stuck}
 use Rattle.answers.specs.FirstRefusal.{SheetRefusal, RestateRefusal, SizesOr, NumberOr}
 use Rattle.answers.specs.SheetExecution.{systemIn, actionSets, ExecutionTo, ProcessIn}
@@ -101,7 +101,8 @@ pub record AnswerDemand : Type 1 where
       → getD (r .sets) j 0 ≡ cond (ltb j (componentCount b)) (endSet b j) 0
   pub ends-refused : (b : List ℕ) (r : EndSets) (k i s : ℕ) → EndSetsAnswer b r → SheetRefusal b k i s
       → r .sets ≡ replicate mostComponents 0
-  -- A4: the figure
-  pub figure-told : (b : List ℕ) (r : Answer) → FigureAnswer b r → Accepted b → r ≡ Answer.Given (figure b)
+  -- A4: the figure of an accepted sheet, which is exactly one number
+  pub figure-told : (b : List ℕ) (r : Answer) (f : ℕ) → FigureAnswer b r → (r ≡ Answer.Given f) ↔ (Accepted b × IsFigure b f)
+  pub figure-one : (b : List ℕ) → (f : ℕ) × IsFigure b f × ((g : ℕ) → IsFigure b g → g ≡ f)
   -- A5: 1 for stuck, else 0
   pub stuck-told : (b : List ℕ) (r : Answer) → StuckAnswer b r → Accepted b → r ≡ Answer.Given (bit (stuck b))

@@ -2,9 +2,9 @@
 ghost use mathlib.Core.Path.{_≡_};
 ghost use Prim.Native.Nat.{_≤_};
 ghost use lib.ListN.{length};
-ghost use Rattle.sheet.specs.Bounds.{mostSteps, mostInSteps};
+ghost use Rattle.sheet.specs.Bounds.{mostInSteps};
 ghost use Rattle.answers.specs.Restated.{restatedSteps};
-ghost use Rattle.answers.specs.Figure.{quotient, figure};
+ghost use Rattle.answers.specs.Figure.{FigureOf, figure};
 ghost use Rattle.desk.specs.AcceptedSheet.{AcceptedSheet};
 ghost use Rattle.desk.specs.Calls.{FigureAnswer};
 use crate::restate;
@@ -12,20 +12,26 @@ use crate::verdict;
 use answers::Answer;
 use answers::Sizes;
 
-// A4: ten times the actions over the steps, rounded to a whole number, a half upwards; 0 without steps.
+// A4: ten times the actions, divided by the steps and rounded to the nearest whole number; a half goes to the even one; 0 without steps.
 fn rounded_quotient(actions: u64, steps: u64) -> u64
-    requires { ⌜ (actions ≤ mostInSteps) × (steps ≤ mostSteps) ⌝ }
-    ensures { λ r. ⌜ r ≡ quotient actions steps ⌝ }
+    requires { ⌜ actions ≤ mostInSteps ⌝ }
+    ensures { λ r. ⌜ FigureOf actions steps r ⌝ }
 {
     if steps == 0 {
         return 0;
     }
-    (20 * actions + steps) / (2 * steps)
+    let whole = 10 * actions / steps;
+    let rest = 10 * actions % steps;
+    // The rest is more than half of the steps; or it is just half, and the whole is odd.
+    if 2 * rest + whole % 2 > steps {
+        return whole + 1;
+    }
+    whole
 }
 
 // The figure of an accepted sheet that has `count` restated steps.
 pub fn figure_with(sheet: &[u8], sizes: Sizes, count: usize) -> u64
-    requires { ⌜ AcceptedSheet (now sheet) sizes × (count ≤ mostSteps) × (count ≡ length (restatedSteps (now sheet))) ⌝ }
+    requires { ⌜ AcceptedSheet (now sheet) sizes × (count ≡ length (restatedSteps (now sheet))) ⌝ }
     ensures { λ r. ⌜ r ≡ figure (now (sheet .entry)) ⌝ }
 {
     let section = reading::step_section(sheet, sizes.s);

@@ -1,6 +1,7 @@
 -- The demands on the calls for C, proved: the record of `specs/Demands.antt`, from the refusals of each outcome and its parts that fit.
 -- Assumes nothing.
 use mathlib.Core.Path.{_≡_, refl, sym, ap, _∙_, subst}
+use mathlib.Core.Logic.{_⊎_, inl, inr}
 use mathlib.Core.List.{List, _++_}
 use Prim.Native.Nat.{ℕ, _+_, _-_, _/_, _%_, _<_, _≤_}
 use native.Mathlib.Omega.{arith}
@@ -35,6 +36,7 @@ use Rattle.rows.proofs.Demands.{rows-refuses, refused-left as rows-refused-left
 use Rattle.columns.specs.Calls.{ColumnsAnswer, ColumnsRefusal}
 use Rattle.columns.proofs.Demands.{columns-demand}
 use Rattle.oatmist.specs.Convention.{withValues, FitsWord, CAnswer}
+use Rattle.oatmist.specs.Version.{versionNumber}
 use Rattle.oatmist.specs.Calls.{EndSetsForC, ColumnsForC}
 use Rattle.oatmist.specs.Demands.{ReadsAs, InFront, ToldToC, Number, DemandsForC}
 use Rattle.oatmist.proofs.FitsWord.{fits-read, fits-process, fits-restate, fits-figure, fits-stuck, fits-report, fits-rows, fits-columns, fits-work, fits-winner}
@@ -194,6 +196,12 @@ module _ (b d out left old new : List ℕ) (r : ℕ) where
       go (Answer.Given x) h t n = absurd (n (t .0))
       go (Answer.Refused k i s) h t n = columns-demand .refused-untouched b d out left k i s h
 
+-- O10: the number of a version grows with its parts
+grows : (a b c d e f : ℕ) → b < 100 → c < 100 → (a < d) ⊎ ((a ≡ d) × ((b < e) ⊎ ((b ≡ e) × (c < f)))) → versionNumber a b c < versionNumber d e f
+grows a b c d e f k l (inl h) = omega arith
+grows a b c d e f k l (inr (g, inl h)) = omega arith
+grows a b c d e f k l (inr (g, inr (j, h))) = omega arith
+
 -- D1, O4, O5: C is told what each call from Rattle answers; so D2 and D3 hold of what it is told
 pub demands-for-c : DemandsForC
 demands-for-c =
@@ -236,5 +244,8 @@ demands-for-c =
           (λ k i s e. c .output-left ∙ rows-refused-left b out k i s e);
       columns-untouched = columns-kept;
       leaner = λ b c part h. h;
+      version = λ r h. h;
+      version-parts = refl;
+      version-grows = grows;
       worked = (λ z. absurd (omega arith), refl, refl, refl);
     }

@@ -20,6 +20,7 @@ use Rattle.answers.specs.Report.{reporting, reportOutput}
 use Rattle.products.specs.ProductVerdict.{rowsOutcome, rowsOutput}
 use Rattle.columns.specs.Calls.{ColumnsAnswer}
 use Rattle.oatmist.specs.Convention.{CAnswer}
+use Rattle.oatmist.specs.Version.{libraryVersion}
 
 -- O1, S6: the check
 abbrev pub CheckForC : List ℕ → ℕ → List ℕ → List ℕ → Type 0
@@ -73,3 +74,7 @@ WinnerForC b c r old new = CAnswer (values oneValue (winner b c)) r old new
 -- A2: its step section
 abbrev pub LeanerForC : List ℕ → List ℕ → List ℕ → Type 0
 LeanerForC b c part = part ≡ leaner b c
+
+-- O10: the version, from Rattle and for C
+abbrev pub VersionTold : ℕ → Type 0
+VersionTold r = r ≡ libraryVersion

@@ -2,7 +2,7 @@
 -- macros of include/oatmist.h, and the array that it lent, is told what the call from Rattle answers.
 -- Assumes nothing.
 use mathlib.Core.Path.{_≡_}
-use mathlib.Core.Logic.{_↔_}
+use mathlib.Core.Logic.{_↔_, _⊎_}
 use mathlib.Core.List.{List, [], _∷_}
 use Prim.Native.Nat.{ℕ, _/_, _%_, _<_, _≤_}
 use lib.ListN.{length, getD}
@@ -15,7 +15,8 @@ use Rattle.comparing.specs.Calls.{SameWorkAnswer, WinnerAnswer, LeanerPart}
 use Rattle.report.specs.Calls.{ReportAnswer}
 use Rattle.rows.specs.Calls.{RowsAnswer, RowsRefusal}
 use Rattle.columns.specs.Calls.{ColumnsAnswer, ColumnsRefusal}
-use Rattle.oatmist.specs.Calls.{CheckForC, EndSetsForC, ProcessForC, FigureForC, StuckForC, RestateForC, ReportForC, SameWorkForC, WinnerForC, LeanerForC, RowsForC, ColumnsForC}
+use Rattle.oatmist.specs.Version.{versionNumber}
+use Rattle.oatmist.specs.Calls.{CheckForC, EndSetsForC, ProcessForC, FigureForC, StuckForC, RestateForC, ReportForC, SameWorkForC, WinnerForC, LeanerForC, RowsForC, ColumnsForC, VersionTold}
 
 -- what is returned is not 0, and OATMIST_REFUSAL, OATMIST_STEP and OATMIST_SHEET read this refusal from it
 abbrev pub ReadsAs : ℕ → Refusal
@@ -66,5 +67,10 @@ pub record DemandsForC : Type 0 where
   pub columns-untouched : (b d out left old new : List ℕ) (r : ℕ) → ColumnsForC b d out r left old new → ¬ (r ≡ 0) → left ≡ out
   -- the part of the leaner sheet
   pub leaner : (b c part : List ℕ) → LeanerForC b c part → LeanerPart b c part
+  -- O10: the version, which is 2.0.0; how the three parts of one make a number, and that it grows with them
+  pub version : (r : ℕ) → VersionTold r → r ≡ 20000
+  pub version-parts : versionNumber 1 23 45 ≡ 12345
+  pub version-grows : (a b c d e f : ℕ) → b < 100 → c < 100 → (a < d) ⊎ ((a ≡ d) × ((b < e) ⊎ ((b ≡ e) × (c < f))))
+      → versionNumber a b c < versionNumber d e f
   -- a worked number: refusal 12 of the second sheet at the step with index 1023
   pub worked : ReadsAs 67043596 12 1023 1

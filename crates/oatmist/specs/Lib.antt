@@ -1,3 +1,4 @@
 pub mod Convention
+pub mod Version
 pub mod Calls
 pub mod Demands

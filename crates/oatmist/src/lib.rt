@@ -2,7 +2,7 @@
 // a length, and the values of an answer go to an array that the caller lends (include/oatmist.h).
 mod convention;
 
-ghost use Rattle.oatmist.specs.Calls.{CheckForC, EndSetsForC, ProcessForC, FigureForC, StuckForC, RestateForC, ReportForC, SameWorkForC, WinnerForC, LeanerForC, RowsForC, ColumnsForC};
+ghost use Rattle.oatmist.specs.Calls.{CheckForC, EndSetsForC, ProcessForC, FigureForC, StuckForC, RestateForC, ReportForC, SameWorkForC, WinnerForC, LeanerForC, RowsForC, ColumnsForC, VersionTold};
 pub use answers::Answer;
 pub use answers::EndSets;
 pub use answers::Sizes;
@@ -126,4 +126,19 @@ pub extern "C" fn oatmist_columns(
         (now (answer .entry)) (now (answer .exit)) ⌝ }
 {
     convention::hand(merging::columns(sheet, columns, out), answer)
+}
+
+// O10: the version of the library as a number that grows: 10000 times its first part, 100 times the second, and the third.
+pub fn version() -> u64
+    ensures { λ r. ⌜ VersionTold r ⌝ }
+{
+    20000
+}
+
+// The same for C.
+#[no_mangle]
+pub extern "C" fn oatmist_version() -> u64
+    ensures { λ r. ⌜ VersionTold r ⌝ }
+{
+    version()
 }

@@ -4,7 +4,7 @@ use mathlib.Core.Path.{_≡_, refl, sym, ap, ap₂, _∙_}
 use mathlib.Core.Bool.{Bool, true, false}
 use mathlib.Core.List.{List, [], _∷_, _++_, map, List·Memᴰ, List·Memᴰ·head, List·Memᴰ·tail}
 use Prim.Native.Nat.{ℕ, zero, suc, _+_, _*_, _^_, _≤_, _<_}
-use native.Mathlib.Nat.{div-le-self}
+use native.Mathlib.Nat.{mul-le-mul-left}
 use native.Mathlib.Omega.{arith}
 use lib.ListN.{length, take, getD, length-append}
 use Rattle.sets.specs.Lists.{appendAll, over, below}
@@ -23,9 +23,10 @@ use Rattle.answers.specs.Outcomes.{Outcome, given, values, oneValue, bit, outco
 use Rattle.answers.specs.LentOutput.{outputBy}
 use Rattle.answers.specs.Ends.{endSet}
 use Rattle.answers.specs.Restated.{restatedSteps}
-use Rattle.answers.specs.Figure.{quotient, figure}
+use Rattle.answers.specs.Figure.{FigureOf, figure}
 use Rattle.answers.specs.Stuck.{stuck}
 use Rattle.answers.specs.Report.{acceptedWord, refusedWord, endWord, line, stepTexts, endTexts, summaryLine, stepLines, endLines, report, reporting, reportOutput, reportRoom}
+use Rattle.answers.proofs.Laws.{answer-laws}
 use Rattle.answers.proofs.Normal.{normal-actions, normal-no-longer}
 use Rattle.answers.proofs.Restated.{restated-normal, accepted-limits, accepted-order, accepted-fine}
 use Rattle.answers.proofs.Reports.{report-refused, report-accepted}
@@ -98,14 +99,14 @@ module _ (b : List ℕ) (acc : Accepted b) where
   unfolding endLines
   ends-short = ends-most (endSet b) (componentCount b) (accepted-limits b acc .components-high)
 
-  small-figure : figure b ≤ 21504
-  unfolding figure
-  small-figure = go (length (restatedSteps b)) few-steps
+  small-figure : figure b ≤ 10752
+  small-figure = go (length (restatedSteps b)) few-steps (answer-laws .figure-exactly b (figure b) .0 refl)
     where
-      go : (k : ℕ) → k ≤ mostSteps → quotient (length (flat (steps b))) k ≤ 21504
-      go zero h = omega arith
-      go (suc k) h =
-          let d = div-le-self (20 * length (flat (steps b)) + suc k) (2 * suc k) in
+      go : (k : ℕ) → k ≤ mostSteps → FigureOf (length (flat (steps b))) k (figure b) → figure b ≤ 10752
+      go zero h f = omega arith
+      go (suc k) h f =
+          let near = f .near in
+          let times : figure b * 1 ≤ figure b * suc k = mul-le-mul-left (figure b) (omega arith) in
           let a = accepted-limits b acc .actions-total in
           omega arith
 

@@ -1,8 +1,6 @@
 // The numbers of the report's first line for an accepted sheet.
 ghost use mathlib.Core.Path.{_≡_};
-ghost use Prim.Native.Nat.{_≤_};
 ghost use lib.ListN.{length};
-ghost use Rattle.sheet.specs.Bounds.{mostSteps};
 ghost use Rattle.sheet.specs.Verdict.{verdict};
 ghost use Rattle.answers.specs.Restated.{restatedSteps};
 ghost use Rattle.answers.specs.Report.{acceptedWord, line, summaryLine};
@@ -14,7 +12,7 @@ use desk::stuck;
 
 // The numbers of an accepted sheet's first line: its steps, its restated steps, the figure, and 1 if it is stuck.
 pub fn summary_numbers(sheet: &[u8], sizes: Sizes, count: usize, sets: &[u64]) -> [u64; 4]
-    requires { ⌜ AcceptedSheet (now sheet) sizes × (count ≤ mostSteps) × (count ≡ length (restatedSteps (now sheet)))
+    requires { ⌜ AcceptedSheet (now sheet) sizes × (count ≡ length (restatedSteps (now sheet)))
         × (now sets ≡ endArrayBy (verdict (now sheet)) (now sheet)) ⌝ }
     ensures { λ r. ⌜ line acceptedWord r ≡ summaryLine (now (sheet .entry)) ⌝ }
 {

@@ -1,6 +1,5 @@
--- `figure::figure_with` meets its contract (A4): the actions of the section over the restated steps.
+-- `figure::figure_with` meets its contract (A4): the figure of the section's actions and the restated steps.
 -- Assumes nothing.
-use mathlib.Core.Path.{_∙_}
 use native.Mathlib.Omega.{arith}
 use borrow.Author.Needs.{needs}
 use Rattle.desk.proofs.Accepted.{section-told, section-few, section-room}
@@ -19,16 +18,15 @@ rounded-quotient-requires c κs =
     let s = c .before .before .before in
     let e = c .actions-in .ensures in
     let f = section-few (s .args .sheet .now) (s .args .sizes) (s .pre .0) _ (cut .ensures) in
-    (omega arith, s .pre .1)
+    omega arith
 
 returns : tie.Need-returns
 returns c =
     let cut = c .before .before .step-section in
     let s = c .before .before .before .before in
     let a = s .args in
-    c .rounded-quotient .ensures
-    ∙ figure-told (a .sheet .now) _ (section-told (a .sheet .now) (a .sizes) (s .pre .0) _ (cut .ensures)) (c .before .actions-in .result) (a .count)
-    (c .before .actions-in .ensures) (s .pre .2)
+    figure-told (a .sheet .now) _ (section-told (a .sheet .now) (a .sizes) (s .pre .0) _ (cut .ensures)) (c .before .actions-in .result) (a .count)
+    (c .before .actions-in .ensures) (s .pre .1) (c .rounded-quotient .result) (c .rounded-quotient .ensures)
 
 pub figure-with-spec : {M : Type 1} → statement M
 figure-with-spec = tie.close (tie.spec (λ c κs. search needs) actions-in-requires rounded-quotient-requires returns)

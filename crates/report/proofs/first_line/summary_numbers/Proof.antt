@@ -25,7 +25,7 @@ returns : tie.Need-returns
 returns c =
     let a = c .before .before .before .before .before .before .args in
     let p = c .before .before .before .before .before .before .pre in
-    first-line (a .sheet .now) (a .sizes .s) _ _ _ _ (p .0 .sizes-read .s-read) refl (p .2) (c .before .before .figure-with .ensures)
+    first-line (a .sheet .now) (a .sizes .s) _ _ _ _ (p .0 .sizes-read .s-read) refl (p .1) (c .before .before .figure-with .ensures)
     (c .bit .ensures ∙ ap bit (c .before .stuck-at .ensures))
 
 pub summary-numbers-spec : {M : Type 1} → statement M
