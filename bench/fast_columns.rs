@@ -2,45 +2,56 @@
 //! Each column is executed by itself, since no component sees what the others do; then the columns are taken off step by step, each step
 //! a set: all actions that head every column of theirs.
 
-use crate::fast::{run, sections, value_told, write, Accepted, Machine, Refusal, Sections};
+use crate::fast::{run, sections, value_told, write, Machine, Records, Refusal, Sections};
 
 /// The most labels together.
 const MOST: usize = 1_024;
 
-/// The labels of each component; nothing where they do not fill the bytes, or one is outside its alphabet.
+/// The columns of a sheet.
+struct Columns<'a> {
+    /// The labels of each component.
+    of: [&'a [u8]; 16],
+    /// How many there are together.
+    labels: usize,
+    /// The actions that they are.
+    used: u64,
+}
+
+/// The columns of n components; nothing where they do not fill the bytes, are too long, or have a label outside an alphabet.
 #[inline(always)]
-fn read<'a, const N: usize, const L: usize, const K: usize>(
-    machine: &Machine<N, L, K>,
-    n: usize,
-    bytes: &'a [u8],
-) -> Option<[&'a [u8]; N]> {
-    let mut columns: [&[u8]; N] = [&[]; N];
+fn read<'a>(records: &Records, n: usize, bytes: &'a [u8]) -> Option<Columns<'a>> {
+    let labels = bytes.len().checked_sub(2 * n).filter(|&labels| labels <= MOST)?;
+    let mut columns = Columns {
+        of: [&[]; 16],
+        labels,
+        used: 0,
+    };
     let mut rest = bytes;
-    for (j, column) in columns[..n].iter_mut().enumerate() {
+    for (column, alphabet) in columns.of[..n].iter_mut().zip(records.alphabets) {
         let &[low, high, ref tail @ ..] = rest else {
             return None;
         };
         (*column, rest) = tail.split_at_checked(u16::from_le_bytes([low, high]) as usize)?;
-        let alphabet = machine.alphabet(j);
-        let strange = |label: u8| label >> 6 != 0 || alphabet >> (label & 63) & 1 == 0;
-        if column.iter().fold(false, |some, &label| some | strange(label)) {
+        let add = |(used, all): (u64, u8), &label: &u8| (used | 1 << (label & 63), all | label);
+        let (used, all) = column.iter().fold((0, 0), add);
+        if all >> 6 != 0 || used & !alphabet != 0 {
             return None;
         }
+        columns.used |= used;
     }
     rest.is_empty().then_some(columns)
 }
 
 /// Whether each component can do what its own column says.
 #[inline(always)]
-fn executed<const N: usize, const L: usize, const K: usize>(
-    machine: &mut Machine<N, L, K>,
+fn executed<const N: usize, const H: usize, const K: usize>(
+    machine: &mut Machine<N, H, K>,
     columns: &[&[u8]],
-    many: bool,
 ) -> bool {
     for (j, column) in columns.iter().enumerate() {
         let mut held = machine.start[j];
         for &label in *column {
-            held = machine.fired(j, label as usize & 63, held, many);
+            held = machine.fired(j, label as usize & 63, held);
             if held == 0 {
                 return false;
             }
@@ -116,63 +127,78 @@ fn steps<const N: usize, const P: usize>(
     (taken as usize == labels).then_some((steps, count))
 }
 
-/// What is written for an accepted sheet and these columns, of which there are so many labels, at most P.
+/// What is written for an accepted sheet and these columns, which have at most P labels.
 #[inline(always)]
 fn join<const N: usize, const P: usize>(
     sheet: &[u8],
-    accepted: &Accepted,
-    columns: [&[u8]; N],
-    labels: usize,
+    read: &Sections,
+    columns: &Columns,
+    participants: &[u16; 64],
     out: &mut [u8],
 ) -> Result<usize, Refusal> {
-    let (steps, count) = steps::<N, P>(columns, labels, &accepted.participants).ok_or((19, 0))?;
-    write(sheet, accepted, &steps[..count], out)
+    let own: [&[u8]; N] = *columns.of.first_chunk().unwrap();
+    let (steps, count) = steps::<N, P>(own, columns.labels, participants).ok_or((19, 0))?;
+    write(sheet, read, &steps[..count], out)
 }
 
-/// Refusals 5 to 19 and 13, with room for N components, L pairs of a component and an action, and K transitions.
-#[inline(always)]
-fn written_over<const N: usize, const L: usize, const K: usize>(
-    sections: &Sections,
-    sheet: &[u8],
-    bytes: &[u8],
+/// A sheet up to refusal 6, its columns if they are right, and the actions of both.
+struct Given<'a> {
+    sheet: &'a [u8],
+    read: &'a Sections<'a>,
+    records: &'a Records,
+    columns: Option<&'a Columns<'a>>,
+    used: u64,
+}
+
+/// Refusals 7 to 19 and 13, with room for N components, H pairs of a component and a label, and K entries of rows.
+#[inline(never)]
+fn written_over<const N: usize, const H: usize, const K: usize>(
+    given: &Given,
     out: &mut [u8],
 ) -> Result<usize, Refusal> {
-    let n = sections.n;
-    // So many labels there are, if the columns fill their bytes.
-    let labels = bytes.len().checked_sub(2 * n).filter(|&labels| labels <= MOST);
-    run::<N, L, K, _>(
-        sections,
-        labels.is_some_and(|labels| labels > 0),
-        |accepted, machine| {
-            let labels = labels.ok_or((18, 0))?;
-            let Some(machine) = machine.filter(|_| labels > 0) else {
-                let empty = bytes.iter().all(|&byte| byte == 0);
-                return if empty {
-                    write(sheet, &accepted, &[], out)
-                } else {
-                    Err((18, 0))
-                };
-            };
-            let columns = read(machine, n, bytes).ok_or((18, 0))?;
-            if !executed(machine, &columns[..n], labels >= 16) {
-                return Err((19, 0));
-            }
-            if labels <= 64 {
-                join::<N, 64>(sheet, &accepted, columns, labels, out)
-            } else {
-                join::<N, MOST>(sheet, &accepted, columns, labels, out)
-            }
-        },
-    )
+    let &Given { sheet, read, records, columns, used } = given;
+    run::<N, H, K, _>(read, records, used, &mut [0; 64], |_, machine, participants| {
+        let columns = columns.ok_or((18, 0))?;
+        if !executed(machine, &columns.of[..read.n]) {
+            return Err((19, 0));
+        }
+        if columns.labels <= 64 {
+            join::<N, 64>(sheet, read, columns, participants, out)
+        } else {
+            join::<N, MOST>(sheet, read, columns, participants, out)
+        }
+    })
 }
 
 #[inline(always)]
 fn written(sheet: &[u8], bytes: &[u8], out: &mut [u8]) -> Result<usize, Refusal> {
-    let read = sections(sheet)?;
-    if read.is_small() {
-        written_over::<4, 256, 128>(&read, sheet, bytes, out)
+    let sections = sections(sheet)?;
+    let mut records = Records::NONE;
+    records.read(&sections)?;
+    if sections.has_no_steps() && bytes.len() == 2 * sections.n {
+        // Nothing is to be run, if the columns are empty.
+        sections.check_transitions(&records, 0)?;
+        let empty = bytes.iter().all(|&byte| byte == 0);
+        return if empty { write(sheet, &sections, &[], out) } else { Err((18, 0)) };
+    }
+    let columns = read(&records, sections.n, bytes);
+    let used = sections.used() | columns.as_ref().map_or(0, |columns| columns.used);
+    let entries = records.entries(sections.n, used);
+    let given = Given {
+        sheet,
+        read: &sections,
+        records: &records,
+        columns: columns.as_ref(),
+        used,
+    };
+    if sections.is_small() && entries <= 192 {
+        written_over::<4, 64, 192>(&given, out)
+    } else if sections.is_middle() && entries <= 640 {
+        written_over::<16, 528, 640>(&given, out)
+    } else if entries <= 4_096 {
+        written_over::<16, 1_040, 4_096>(&given, out)
     } else {
-        written_over::<16, 1024, 2048>(&read, sheet, bytes, out)
+        written_over::<16, 1_040, 35_458>(&given, out)
     }
 }
 

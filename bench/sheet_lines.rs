@@ -189,6 +189,64 @@ fn late_fault(number: u64) -> Vec<u8> {
     bytes
 }
 
+/// One component of 32 states, all held, with 64 actions that every state can do: 2,048 transitions. The last action again and again,
+/// whose transitions stand behind all others of their states.
+fn last_of_many() -> Draft {
+    let mut draft = Draft::empty(64);
+    draft.records.push(all_held(32, u64::MAX));
+    permuted(&mut draft);
+    draft.steps = vec![1 << 63; 1024];
+    draft
+}
+
+/// One component of 32 states, all held, with 2 actions by which every state leads to every state: 2,048 transitions, 1,024 steps.
+fn many_targets() -> Draft {
+    let mut draft = Draft::empty(2);
+    draft.records.push(all_held(32, 3));
+    let pairs = (0..32).flat_map(|source| [0, 1].map(|action| (source, action)));
+    draft.transitions = pairs.flat_map(|(source, action)| (0..32).map(move |target| [0, source, action, target])).collect();
+    draft.steps = vec![2; 1024];
+    draft
+}
+
+/// 64 actions in each of 16 components whose 32 states form an internal ring, so that all are held all along; of each action a state or two
+/// can do it: 2,048 transitions. Every pair of a component and an action is fired, 1,024 steps.
+fn rings_of_all() -> Draft {
+    let mut draft = Draft::empty(64);
+    for j in 0..16 {
+        let mut record = all_held(32, u64::MAX);
+        record.initial = 1;
+        draft.records.push(record);
+        for q in 0..32 {
+            draft.transitions.push([j, q, 255, (q + 1) % 32]);
+            draft.transitions.push([j, q, q, (q + 7) % 32]);
+            draft.transitions.push([j, (q + 5) % 32, q, (q + 9) % 32]);
+            draft.transitions.push([j, q, q + 32, (q + 9) % 32]);
+        }
+    }
+    draft.transitions.sort();
+    draft.steps = (0..1024).map(|k| 1 << (29 * k % 64)).collect();
+    draft
+}
+
+/// Components that share 4 actions, each of which leads every state to the next one: after each action another set is held, as large as the
+/// one before, and no action is done from the same set as the last time. 1,024 steps.
+fn turning(n: u8, initial: u32) -> Draft {
+    let mut draft = Draft::empty(4);
+    for j in 0..n {
+        let mut record = all_held(32, 15);
+        record.initial = initial;
+        draft.records.push(record);
+        let pairs = (0..32).flat_map(|source| (0..4).map(move |action| (source, action)));
+        draft.transitions.extend(pairs.map(|(source, action)| [j, source, action, (source + 1) % 32]));
+    }
+    draft.steps = (0..1024).map(|k| 1 << (k % 4)).collect();
+    draft
+}
+
+/// 19 of 32 states, in no order that comes back before 32 turns.
+const IRREGULAR: u32 = 0x5b3a_91e7;
+
 fn cases() -> Vec<(&'static str, Vec<Vec<u8>>)> {
     vec![
         ("smallest sheet, 26 bytes", vec![sheets::smallest().bytes()]),
@@ -204,6 +262,11 @@ fn cases() -> Vec<(&'static str, Vec<Vec<u8>>)> {
         ("largest, action in 2 components, single steps", vec![largest(2, Cut::Single).bytes()]),
         ("largest, action in all 16, single steps", vec![largest(16, Cut::Single).bytes()]),
         ("largest tables, 1 state held, single steps", vec![largest_one_held().bytes()]),
+        ("last of 64 labels, 1 component, all 32 held", vec![last_of_many().bytes()]),
+        ("32 targets a state, 1 component, all 32 held", vec![many_targets().bytes()]),
+        ("64 actions in all 16 components, internal rings", vec![rings_of_all().bytes()]),
+        ("held sets that turn, 1 component", vec![turning(1, IRREGULAR).bytes()]),
+        ("held sets that turn, 16 components", vec![turning(16, IRREGULAR).bytes()]),
         ("internal chains of 32, n 16, no steps", vec![internal(16, 32, false, 0).bytes()]),
         ("internal rings of 32, n 16, no steps", vec![internal(16, 32, true, 0).bytes()]),
         ("internal rings of 32, n 16, 64 steps of 16", vec![internal(16, 32, true, 64).bytes()]),
@@ -265,6 +328,15 @@ fn by_transitions(each: usize) -> Draft {
     draft
 }
 
+/// One component with 64 actions that each of its states can do, all states held; single steps, each action so many times.
+fn by_table(states: usize, times: usize) -> Draft {
+    let mut draft = Draft::empty(64);
+    draft.records.push(all_held(states, u64::MAX));
+    permuted(&mut draft);
+    draft.steps = (0..64 * times).map(|k| 1 << (k % 64)).collect();
+    draft
+}
+
 fn growth() -> Vec<(&'static str, Vec<(usize, Vec<u8>)>)> {
     vec![
         (
@@ -274,6 +346,18 @@ fn growth() -> Vec<(&'static str, Vec<(usize, Vec<u8>)>)> {
         (
             "transitions (n 16, 32 states, no steps)",
             [0, 1, 2, 4].map(|k| (512 * k, by_transitions(k).bytes())).to_vec(),
+        ),
+        (
+            "transitions (n 1, 2 to 32 states, all held, 64 actions, each done once)",
+            [2, 8, 32].map(|k| (64 * k, by_table(k, 1).bytes())).to_vec(),
+        ),
+        (
+            "transitions (n 1, 2 to 32 states, all held, 64 actions, each done 16 times)",
+            [2, 8, 32].map(|k| (64 * k, by_table(k, 16).bytes())).to_vec(),
+        ),
+        (
+            "held states (n 1, 32 states, held sets that turn, 1,024 steps)",
+            [1, 2, 4, 8, 16, 31].map(|k| (k, turning(1, (1 << k) - 1).bytes())).to_vec(),
         ),
         (
             "components (32 states each in a ring of internal transitions, no steps)",

@@ -19,9 +19,9 @@
    Threads. The library keeps nothing between calls and takes no memory but the caller's stack: calls may run side by side, on the same
    sheets too, as long as each has outputs of its own.
 
-   Stack. OATMIST_STACK bytes serve every call. Measured on x86-64, for the smallest and the largest sheets, products and columns alike:
-   version 1 KiB, rows 3, check and process 8, end_sets and stuck 9, restate 10, figure, winner and leaner 16, columns 19, same_work 24,
-   report 33. */
+   Stack. OATMIST_STACK bytes serve every call: no sheet, product or columns need more. So a thread with a stack of 256 KiB always serves.
+   Measured on x86-64, in KiB, for small and middle sheets, and behind the slash for the largest: version 1 / 1, rows 3 / 3, check 25 / 83,
+   process, figure and restate 25 / 84, end_sets, stuck, winner and leaner 26 / 84, columns 35 / 93, same_work 42 / 100, report 50 / 109. */
 #ifndef OATMIST_H
 #define OATMIST_H
 
@@ -58,8 +58,8 @@ uint64_t oatmist_version(void);
 /* An output of so many bytes always serves for the sheet of a product given by rows. */
 #define OATMIST_ROWS_ROOM 4362
 
-/* Stack that serves every call, in bytes: nearly twice what was measured. */
-#define OATMIST_STACK 65536
+/* Stack that serves every call, in bytes: more than the most that was measured. */
+#define OATMIST_STACK 131072
 
 /* What a call returned, taken apart: its number in bits 0 to 7, the sheet in bits 8 to 15, the step index from bit 16 on. */
 #define OATMIST_REFUSAL(told) ((int)((told) & 255))

@@ -1,6 +1,7 @@
 /* D1, wherever a call is made: what oatmist.h says of the stack and of threads. Each call is run in a thread whose stack was painted
-   before, and what it painted over must keep within what is said there; then all calls are made side by side in several threads, and must
-   answer as they do alone. With an argument the bytes of stack are printed too. The last line is 'N passed, 0 failed'. */
+   before, and what it painted over must keep within what is said there, of small things and of the largest; then all calls are made side by
+   side in several threads, and must answer as they do alone. With an argument the bytes of stack are printed too, and the most that each call
+   took in KiB. The last line is 'N passed, 0 failed'. */
 #define _DEFAULT_SOURCE
 #include "oatmist.h"
 #include <pthread.h>
@@ -13,24 +14,32 @@ static int passed, failed;
 /* ---- sheets, products and columns: X4, the smallest, and L1 to L7, R15 and R18 at their most ---- */
 
 #define LONGEST_PRODUCT (2 + 16 * (3 + 2 * 255) + 16 * 64)
-static uint8_t smallest[OATMIST_SHORTEST_SHEET], largest[OATMIST_LONGEST_SHEET], internal[OATMIST_LONGEST_SHEET];
-static uint8_t one_row[8], all_rows[LONGEST_PRODUCT], alike[LONGEST_PRODUCT];
-static uint8_t empty[2], spread[2 * OATMIST_COMPONENTS + 1024], single[2 * OATMIST_COMPONENTS + 1024];
+#define SHEET(components, transitions, steps) (16 * (components) + 4 * (transitions) + 8 * (steps) + 10)
+static uint8_t smallest[OATMIST_SHORTEST_SHEET], middle[SHEET(6, 6 * 8 * 4, 64)], largest[OATMIST_LONGEST_SHEET];
+static uint8_t internal[OATMIST_LONGEST_SHEET], shared[SHEET(16, 16 * 96, 1024)];
+static uint8_t one_row[8], few_rows[2 + 4 * (3 + 2 * 12) + 4 * 12], all_rows[LONGEST_PRODUCT], alike[LONGEST_PRODUCT];
+static uint8_t empty[2], few[2 * 6 + 6 * 8], spread[2 * OATMIST_COMPONENTS + 1024], single[2 * OATMIST_COMPONENTS + 1024];
+static uint8_t together[2 * OATMIST_COMPONENTS + 1024];
 
-/* What a call is given: so many sheets, each with columns for the call that wants them, or so many products. */
-#define GIVEN 3
+/* What a call is given: sheets, each with columns for the call that wants them, or products; and whether it is one of the largest. */
+#define GIVEN 5
 static const struct given {
     const char *name;
+    size_t large;
     const uint8_t *bytes;
     size_t length;
     const uint8_t *columns;
     size_t columns_length;
-} sheets[GIVEN] = {{"smallest sheet", smallest, sizeof smallest, empty, sizeof empty},
-                   {"largest sheet", largest, sizeof largest, spread, sizeof spread},
-                   {"internal sheet", internal, sizeof internal, single, sizeof single}},
-  products[GIVEN] = {{"smallest product", one_row, sizeof one_row, NULL, 0},
-                     {"largest product", all_rows, sizeof all_rows, NULL, 0},
-                     {"rows alike", alike, sizeof alike, NULL, 0}};
+} sheets[GIVEN] = {{"smallest sheet", 0, smallest, sizeof smallest, empty, sizeof empty},
+                   {"middle sheet", 0, middle, sizeof middle, few, sizeof few},
+                   {"largest sheet", 1, largest, sizeof largest, spread, sizeof spread},
+                   {"internal sheet", 1, internal, sizeof internal, single, sizeof single},
+                   {"shared sheet", 1, shared, sizeof shared, together, sizeof together}},
+  products[GIVEN] = {{"smallest product", 0, one_row, sizeof one_row, NULL, 0},
+                     {"middle product", 0, few_rows, sizeof few_rows, NULL, 0},
+                     {"largest product", 1, all_rows, sizeof all_rows, NULL, 0},
+                     {"rows alike", 1, alike, sizeof alike, NULL, 0},
+                     {"again", 1, all_rows, sizeof all_rows, NULL, 0}};
 
 static void put2(uint8_t *bytes, size_t value) {
     bytes[0] = (uint8_t)(value & 255);
@@ -44,11 +53,29 @@ static void put_transition(uint8_t *bytes, size_t component, size_t source, size
     bytes[3] = (uint8_t)target;
 }
 
+/* The steps behind the records and transitions, which end at a place: single actions, each in its turn. Then the trailer. */
+static void finish(uint8_t *sheet, uint8_t *at, size_t components, size_t actions, size_t steps) {
+    const size_t begin = (size_t)(at - sheet);
+    size_t k, a;
+    for (k = 0; k < steps; k++, at += 8) {
+        a = k % actions;
+        memset(at, 0, 8);
+        at[a / 8] = (uint8_t)(1 << a % 8);
+    }
+    put2(at, 0);
+    put2(at + 2, 16 * components);
+    put2(at + 4, begin);
+    at[6] = (uint8_t)components;
+    at[7] = (uint8_t)actions;
+    at[8] = 0x46;
+    at[9] = 0x53;
+}
+
 /* Components with states, and actions of their own. Where there are several states each goes on to another by every action of its
-   component and, if so asked, by an internal move. The steps are single actions, each in its turn. */
+   component and, if so asked, by an internal move. */
 static void make(uint8_t *sheet, size_t components, size_t states, size_t actions, int moves, size_t steps) {
     uint8_t *at = sheet;
-    size_t j, q, a, k;
+    size_t j, q, a;
     for (j = 0; j < components; j++, at += 16) {
         memset(at, 0, 16);
         at[0] = (uint8_t)states;
@@ -65,31 +92,40 @@ static void make(uint8_t *sheet, size_t components, size_t states, size_t action
                 at += 4;
             }
         }
-    size_t begin = (size_t)(at - sheet);
-    for (k = 0; k < steps; k++, at += 8) {
-        a = k % (components * actions);
-        memset(at, 0, 8);
-        at[a / 8] = (uint8_t)(1 << a % 8);
-    }
-    put2(at, 0);
-    put2(at + 2, 16 * components);
-    put2(at + 4, begin);
-    at[6] = (uint8_t)components;
-    at[7] = (uint8_t)(components * actions);
-    at[8] = 0x46;
-    at[9] = 0x53;
+    finish(sheet, at, components, components * actions, steps);
 }
 
-/* V2: columns of so many labels each, for components with actions of their own as `make` gives them; the other columns are empty. */
-static void make_columns(uint8_t *columns, size_t components, size_t actions, size_t labels) {
+/* 16 components of 32 states in an internal ring, all with the same 64 actions; each action can be done in one state of each. So every
+   component has a row for every action, the most that there can be. */
+static void make_shared(uint8_t *sheet) {
+    uint8_t *at = sheet;
+    size_t j, q;
+    for (j = 0; j < OATMIST_COMPONENTS; j++, at += 16) {
+        memset(at, 0, 8);
+        at[0] = 32;
+        at[4] = 1;
+        memset(at + 8, 255, 8);
+    }
+    for (j = 0; j < OATMIST_COMPONENTS; j++)
+        for (q = 0; q < 32; q++, at += 12) {
+            put_transition(at, j, q, q, q);
+            put_transition(at + 4, j, q, q + 32, q);
+            put_transition(at + 8, j, q, 255, (q + 1) % 32);
+        }
+    finish(sheet, at, OATMIST_COMPONENTS, 64, 1024);
+}
+
+/* V2: the columns of so many components, of which the first few have so many labels each and the others none. A component has so many
+   actions; its own as `make` gives them, or all components the same. */
+static void make_columns(uint8_t *columns, size_t components, size_t filled, size_t actions, int own, size_t labels) {
     uint8_t *at = columns;
     size_t j, k;
-    for (j = 0; j < OATMIST_COMPONENTS; j++) {
-        const size_t count = j < components ? labels : 0;
+    for (j = 0; j < components; j++) {
+        const size_t count = j < filled ? labels : 0;
         put2(at, count);
         at += 2;
         for (k = 0; k < count; k++)
-            *at++ = (uint8_t)(actions * j + k % actions);
+            *at++ = (uint8_t)((own ? actions * j : 0) + k % actions);
     }
 }
 
@@ -149,25 +185,25 @@ static uint64_t version(const struct given *given, struct lent *lent) {
     return 0;
 }
 
-/* Each call, the KiB of stack that oatmist.h says it takes at most, and what it is given. */
+/* Each call, the KiB of stack that oatmist.h says it takes at most, of what is not large and of what is, and what it is given. */
 static const struct {
     const char *name;
     uint64_t (*make)(const struct given *, struct lent *);
-    size_t kib;
+    size_t kib[2];
     const struct given *given;
-} calls[] = {{"check", check, 8, sheets},
-             {"end_sets", end_sets, 9, sheets},
-             {"process", process, 8, sheets},
-             {"figure", figure, 16, sheets},
-             {"stuck", stuck, 9, sheets},
-             {"restate", restate, 10, sheets},
-             {"report", report, 33, sheets},
-             {"same_work", same_work, 24, sheets},
-             {"winner", winner, 16, sheets},
-             {"leaner", leaner, 16, sheets},
-             {"rows", rows, 3, products},
-             {"columns", columns, 19, sheets},
-             {"version", version, 1, sheets}};
+} calls[] = {{"check", check, {25, 83}, sheets},
+             {"end_sets", end_sets, {26, 84}, sheets},
+             {"process", process, {25, 84}, sheets},
+             {"figure", figure, {25, 84}, sheets},
+             {"stuck", stuck, {26, 84}, sheets},
+             {"restate", restate, {25, 84}, sheets},
+             {"report", report, {50, 109}, sheets},
+             {"same_work", same_work, {42, 100}, sheets},
+             {"winner", winner, {26, 84}, sheets},
+             {"leaner", leaner, {26, 84}, sheets},
+             {"rows", rows, {3, 3}, products},
+             {"columns", columns, {35, 93}, sheets},
+             {"version", version, {1, 1}, sheets}};
 #define CALLS (sizeof calls / sizeof calls[0])
 
 /* ---- the stack: D1, every call ends ---- */
@@ -212,20 +248,26 @@ static size_t taken(size_t call, const struct given *given) {
 
 static void stacks(int printed) {
     size_t call, k;
-    for (call = 0; call < CALLS; call++)
+    for (call = 0; call < CALLS; call++) {
+        size_t most[2] = {0, 0};
         for (k = 0; k < GIVEN; k++) {
             const struct given *given = &calls[call].given[k];
             taken(call, given); /* once before: the C library's functions are then found */
             size_t bytes = taken(call, given);
-            if (bytes > 0 && bytes <= 1024 * calls[call].kib && bytes <= OATMIST_STACK) {
+            if (bytes > 0 && bytes <= 1024 * calls[call].kib[given->large] && bytes <= OATMIST_STACK) {
                 passed++;
             } else {
                 failed++;
                 printf("FAILED: %s, %s: %zu bytes of stack\n", calls[call].name, given->name, bytes);
             }
+            if (bytes > most[given->large])
+                most[given->large] = bytes;
             if (printed)
                 printf("%-10s %-16s: %6zu bytes of stack\n", calls[call].name, given->name, bytes);
         }
+        if (printed)
+            printf("%-10s {%zu, %zu} KiB\n", calls[call].name, (most[0] + 1023) / 1024, (most[1] + 1023) / 1024);
+    }
 }
 
 /* ---- side by side: D1, the one answer that is due ---- */
@@ -280,11 +322,16 @@ static void side_by_side(void) {
 int main(int count, char **arguments) {
     (void)arguments;
     make(smallest, 1, 1, 1, 0, 0);
+    make(middle, 6, 8, 3, 1, 64);
     make(largest, 16, 32, 4, 0, 1024);
     make(internal, 16, 32, 3, 1, 1024);
-    make_columns(spread, OATMIST_COMPONENTS, 4, 1024 / OATMIST_COMPONENTS);
-    make_columns(single, 1, 3, 1024);
+    make_shared(shared);
+    make_columns(few, 6, 6, 3, 1, 8);
+    make_columns(spread, OATMIST_COMPONENTS, OATMIST_COMPONENTS, 4, 1, 1024 / OATMIST_COMPONENTS);
+    make_columns(single, OATMIST_COMPONENTS, 1, 3, 1, 1024);
+    make_columns(together, OATMIST_COMPONENTS, OATMIST_COMPONENTS, 64, 0, 64);
     make_product(one_row, 1, 1, 1, 1, 0);
+    make_product(few_rows, 4, 6, 12, 12, 0);
     make_product(all_rows, 16, 32, 255, 64, 0);
     make_product(alike, 16, 32, 255, 64, 1);
     stacks(count > 1);

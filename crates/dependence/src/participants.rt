@@ -8,7 +8,7 @@ ghost use Rattle.sheet.specs.Sections.{Alphabets};
 ghost use Rattle.dependence.specs.participants.Participants.{Participants, ComponentEntered};
 
 // Enters component j for each action of its alphabet.
-fn enter(alphabet: u64, j: u32, found: &mut [u64])
+pub fn enter(alphabet: u64, j: u32, found: &mut [u64])
     requires { ⌜ (length (now found) ≡ mostActions) × (j < 64) ⌝ }
     ensures { λ _. ⌜ ComponentEntered alphabet j (now (found .entry)) (now (found .exit)) ⌝ }
 {

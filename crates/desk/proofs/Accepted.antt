@@ -22,8 +22,7 @@ use Rattle.answers.specs.declared.Answer.the-variants.{Accepted as AcceptedAnsw
 use Rattle.answers.specs.Outcomes.{given, values, outcomeOf, after, readOutcome}
 use Rattle.answers.specs.Leaner.{stepSection}
 use Rattle.reading.specs.Reading.{upToTrailer}
-use Rattle.reading.proofs.Sections.{alphabets-part}
-use Rattle.machine.proofs.Running.{tables-told, section-short}
+use Rattle.desk.proofs.Parts.{tables-told, section-short}
 use Rattle.answers.proofs.Passing.{NotAccepted, passed-on, told-accepted}
 use Rattle.answers.proofs.SizesRead.{sizes-read}
 use Rattle.answers.proofs.Restated.{accepted-limits, accepted-order, accepted-fine}
@@ -58,12 +57,6 @@ steps-below b acc =
     flat-below (tables b) (accepted-order b acc) (steps b) (fault-none (tables b) (start (tables b)) 0 (steps b) .0 (accepted-fine b acc) .0)
 
 module _ (b : List ℕ) (z : Sizes) (r : AcceptedSheet b z) where
-  -- an array with the alphabets of the records has those of the sheet (S3)
-  pub alphabets-told : {l : List ℕ} → Alphabets (tablesOf (take (z .t - 0) (drop 0 b)) (z .n) (z .m)) (z .n) l → Alphabets (tables b) (z .n) l
-  alphabets-told A =
-      let k = r .sizes-read in
-      rw (sym (tables-told b (z .n) (z .m) (z .s) (k .n-read) (k .m-read) (k .s-read))) (alphabets-part k A)
-
   -- ---- the step section, handed over as a part p (F6)
 
   module _ (p : List ℕ) (e : p ≡ upToTrailer (z .s) b) where

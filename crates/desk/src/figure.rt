@@ -3,6 +3,8 @@ ghost use mathlib.Core.Path.{_≡_};
 ghost use Prim.Native.Nat.{_≤_};
 ghost use lib.ListN.{length};
 ghost use Rattle.sheet.specs.Bounds.{mostInSteps};
+ghost use Rattle.sheet.specs.Layout.{tables};
+ghost use Rattle.dependence.specs.participants.Participants.{Participants};
 ghost use Rattle.answers.specs.Restated.{restatedSteps};
 ghost use Rattle.answers.specs.Figure.{FigureOf, figure};
 ghost use Rattle.desk.specs.AcceptedSheet.{AcceptedSheet};
@@ -39,12 +41,11 @@ pub fn figure_with(sheet: &[u8], sizes: Sizes, count: usize) -> u64
 }
 
 // The figure of an accepted sheet.
-fn figure_at(sheet: &[u8], sizes: Sizes) -> u64
-    requires { ⌜ AcceptedSheet (now sheet) sizes ⌝ }
+fn figure_at(sheet: &[u8], sizes: Sizes, participants: &[u64]) -> u64
+    requires { ⌜ AcceptedSheet (now sheet) sizes × Participants (tables (now sheet)) (now participants) ⌝ }
     ensures { λ r. ⌜ r ≡ figure (now (sheet .entry)) ⌝ }
 {
-    let mut packed = [0u64; 1024];
-    let count = restate::pack_sheet(sheet, sizes, &mut packed);
+    let count = restate::count_sheet(sheet, sizes, participants);
     figure_with(sheet, sizes, count)
 }
 
@@ -52,9 +53,10 @@ fn figure_at(sheet: &[u8], sizes: Sizes) -> u64
 pub fn figure_of(sheet: &[u8]) -> Answer
     ensures { λ r. ⌜ FigureAnswer (now (sheet .entry)) r ⌝ }
 {
-    let answer = verdict::check(sheet);
+    let mut participants = [0u64; 64];
+    let answer = verdict::check_with(sheet, &mut participants);
     let Answer::Accepted(sizes) = answer else {
         return answer;
     };
-    Answer::Given(figure_at(sheet, sizes))
+    Answer::Given(figure_at(sheet, sizes, &participants))
 }

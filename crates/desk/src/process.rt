@@ -7,20 +7,21 @@ ghost use Rattle.systems.specs.Independence.{dependent};
 ghost use Rattle.sheet.specs.Layout.{tables, steps};
 ghost use Rattle.desk.specs.AcceptedSheet.{AcceptedSheet};
 ghost use Rattle.desk.specs.Calls.{ProcessAnswer};
-use crate::alphabets;
+use crate::records;
 use crate::verdict;
 use answers::Answer;
 use answers::Sizes;
+use sheet::decoded;
 
 // One past the index of the first step of an accepted sheet that offends; 0 where none does.
 fn offence_at(sheet: &[u8], sizes: Sizes) -> u64
     requires { ⌜ AcceptedSheet (now sheet) sizes ⌝ }
     ensures { λ r. ⌜ r ≡ offending (firstOffence (dependent (tables (now (sheet .entry)))) (map members (steps (now (sheet .entry))))) ⌝ }
 {
-    let mut alphabets = [0u64; 16];
-    alphabets::alphabets_of(sheet, sizes, &mut alphabets);
+    let mut records = [0u64; 64];
+    records::records_of(sheet, sizes, &mut records);
     let section = reading::step_section(sheet, sizes.s);
-    dependence::process::first_offence(section, &alphabets, sizes.n)
+    dependence::process::first_offence(section, decoded::alphabets(&records), sizes.n)
 }
 
 // The process check: 0 for a process execution, else one past the index of the first step that offends.

@@ -2,27 +2,33 @@
 ghost use mathlib.Core.Path.{_≡_};
 ghost use mathlib.Core.List.{List};
 ghost use Prim.Native.Nat.{ℕ};
-ghost use lib.ListN.{replicate};
+ghost use lib.ListN.{length, replicate};
+ghost use Rattle.answers.specs.Restated.{restatedSteps};
 ghost use Rattle.sheet.specs.Bounds.{mostSteps};
+ghost use Rattle.sheet.specs.Layout.{tables};
+ghost use Rattle.dependence.specs.participants.Participants.{Participants};
 ghost use Rattle.desk.specs.AcceptedSheet.{AcceptedSheet, SheetGiven, SomeSheet};
 ghost use Rattle.desk.specs.Left.{PackedSteps};
 ghost use Rattle.desk.specs.Calls.{RestateAnswer};
-use crate::alphabets;
 use crate::verdict;
 use answers::Answer;
 use answers::Sizes;
-use dependence::participants;
 
-// Packs the steps of an accepted sheet into `packed`, which comes with zeros, and gives back how many restated steps there are.
-pub fn pack_sheet(sheet: &[u8], sizes: Sizes, packed: &mut [u64]) -> usize
-    requires { ⌜ AcceptedSheet (now sheet) sizes × (now packed ≡ replicate mostSteps 0) ⌝ }
+// Packs the steps of an accepted sheet, by the components of each action, into `packed`, which comes with zeros, and gives back how many
+// restated steps there are.
+pub fn pack_sheet(sheet: &[u8], sizes: Sizes, participants: &[u64], packed: &mut [u64]) -> usize
+    requires { ⌜ AcceptedSheet (now sheet) sizes × Participants (tables (now sheet)) (now participants) × (now packed ≡ replicate mostSteps 0) ⌝ }
     ensures { λ r. ⌜ PackedSteps (now (sheet .entry)) (now (packed .exit)) r ⌝ }
 {
-    let mut alphabets = [0u64; 16];
-    alphabets::alphabets_of(sheet, sizes, &mut alphabets);
-    let mut participants = [0u64; 64];
-    participants::participants_of(&alphabets, sizes.n, &mut participants);
-    normal_form::pack(reading::step_section(sheet, sizes.s), &participants, packed)
+    normal_form::pack(reading::step_section(sheet, sizes.s), participants, packed)
+}
+
+// How many restated steps an accepted sheet has, by the components of each action.
+pub fn count_sheet(sheet: &[u8], sizes: Sizes, participants: &[u64]) -> usize
+    requires { ⌜ AcceptedSheet (now sheet) sizes × Participants (tables (now sheet)) (now participants) ⌝ }
+    ensures { λ r. ⌜ r ≡ length (restatedSteps (now (sheet .entry))) ⌝ }
+{
+    normal_form::count_levels(reading::step_section(sheet, sizes.s), participants)
 }
 
 // Restates the accepted sheet that has these bytes before its steps, the steps of this section and these sizes, by the components of each

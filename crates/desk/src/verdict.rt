@@ -41,45 +41,53 @@ pub fn judge_tables(
     requires { ⌜ TrailerPassed (now sheet) sizes × (now participants ≡ replicate 64 0) × (length (now held) ≡ 16) ⌝ }
     ensures { λ r. ⌜ EndsLeft (now (sheet .entry)) r (now (held .exit)) × ParticipantsLeft (now (sheet .entry)) (now (participants .exit)) ⌝ }
 {
-    let mut alphabets = [0u64; 16];
-    let read = reading::read_tables(sheet, sizes, &mut alphabets);
+    let mut records = [0u64; 64];
+    let read = reading::read_tables(sheet, sizes, &mut records);
     let Answer::Accepted(_) = read else {
         return read;
     };
+    let t = sizes.t;
     let s = sizes.s;
     machine::run_from_start(
-        &sheet[..s],
+        &sheet[t..s],
         reading::step_section(sheet, s),
         sizes,
-        &alphabets,
+        &records,
         participants,
         held,
     )
 }
 
-// The verdict on a sheet. Of an accepted sheet the first sets held are the end sets of its components. The sheet is handed on as a part,
-// whose bounds are in registers; the bounds of the sheet itself would be copied in memory.
-fn judge(sheet: &[u8], held: &mut [u64]) -> Answer
-    requires { ⌜ length (now held) ≡ 16 ⌝ }
-    ensures { λ r. ⌜ EndsLeft (now (sheet .entry)) r (now (held .exit)) ⌝ }
+// The verdict on a sheet. Of an accepted sheet the first sets held are the end sets of its components, and `participants`, which comes with
+// zeros, has the components of each action. The sheet is handed on as a part, whose bounds are in registers; the bounds of the sheet itself
+// would be copied in memory.
+fn judge(sheet: &[u8], participants: &mut [u64], held: &mut [u64]) -> Answer
+    requires { ⌜ (now participants ≡ replicate 64 0) × (length (now held) ≡ 16) ⌝ }
+    ensures { λ r. ⌜ EndsLeft (now (sheet .entry)) r (now (held .exit)) × ParticipantsLeft (now (sheet .entry)) (now (participants .exit)) ⌝ }
 {
     let read = reading::read_trailer(sheet);
     let Answer::Accepted(sizes) = read else {
         return read;
     };
-    let mut participants = [0u64; 64];
-    refusal_or_sizes(
-        judge_tables(&sheet[0..], sizes, &mut participants, held),
-        sizes,
-    )
+    refusal_or_sizes(judge_tables(&sheet[0..], sizes, participants, held), sizes)
 }
 
-// The verdict on a sheet: accepted with its sizes, or refused with number and step index.
+// The verdict on a sheet: accepted with its sizes, or refused with number and step index. Of an accepted sheet `participants`, which comes
+// with zeros, has the components of each action.
+pub fn check_with(sheet: &[u8], participants: &mut [u64]) -> Answer
+    requires { ⌜ now participants ≡ replicate 64 0 ⌝ }
+    ensures { λ r. ⌜ CheckAnswer (now (sheet .entry)) r × ParticipantsLeft (now (sheet .entry)) (now (participants .exit)) ⌝ }
+{
+    let mut held = [0u64; 16];
+    judge(sheet, participants, &mut held)
+}
+
+// The verdict on a sheet.
 pub fn check(sheet: &[u8]) -> Answer
     ensures { λ r. ⌜ CheckAnswer (now (sheet .entry)) r ⌝ }
 {
-    let mut held = [0u64; 16];
-    judge(sheet, &mut held)
+    let mut participants = [0u64; 64];
+    check_with(sheet, &mut participants)
 }
 
 // The set with index j where j is below n, else the empty set.
@@ -107,12 +115,14 @@ fn first_sets(held: &[u64], n: usize) -> [u64; 16]
     sets
 }
 
-// The end sets of a sheet: where each component may be after the last step.
-pub fn end_sets(sheet: &[u8]) -> EndSets
-    ensures { λ r. ⌜ EndSetsAnswer (now (sheet .entry)) r ⌝ }
+// The end sets of a sheet: where each component may be after the last step. Of an accepted sheet `participants`, which comes with zeros, has
+// the components of each action.
+pub fn end_sets_with(sheet: &[u8], participants: &mut [u64]) -> EndSets
+    requires { ⌜ now participants ≡ replicate 64 0 ⌝ }
+    ensures { λ r. ⌜ EndSetsAnswer (now (sheet .entry)) r × ParticipantsLeft (now (sheet .entry)) (now (participants .exit)) ⌝ }
 {
     let mut held = [0u64; 16];
-    let answer = judge(sheet, &mut held);
+    let answer = judge(sheet, participants, &mut held);
     let Answer::Accepted(sizes) = answer else {
         return EndSets {
             answer,
@@ -123,4 +133,12 @@ pub fn end_sets(sheet: &[u8]) -> EndSets
         answer,
         sets: first_sets(&held, sizes.n),
     }
+}
+
+// The end sets of a sheet.
+pub fn end_sets(sheet: &[u8]) -> EndSets
+    ensures { λ r. ⌜ EndSetsAnswer (now (sheet .entry)) r ⌝ }
+{
+    let mut participants = [0u64; 64];
+    end_sets_with(sheet, &mut participants)
 }

@@ -1,1 +1,5 @@
+pub mod Transitions
+pub mod Locally
+pub mod SectionParts
 pub mod Running
+pub mod Wanting

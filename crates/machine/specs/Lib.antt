@@ -1,6 +1,9 @@
-pub mod Runs
-pub mod moves
-pub mod index
+pub mod System
 pub mod closure
+pub mod table
 pub mod firing
 pub mod steps
+pub mod flaws
+pub mod stuck
+pub mod Groups
+pub mod Runs

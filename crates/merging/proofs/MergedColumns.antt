@@ -7,7 +7,7 @@ use mathlib.Core.Bool.{Bool, true, false}
 use mathlib.Core.List.{List, [], map, append-nil, List·Memᴰ}
 use Prim.Native.Nat.{ℕ, _*_, _/_, _^_, _<_}
 use native.Mathlib.Omega.{arith}
-use lib.ListN.{length, take, drop, getD, length-take, length-map}
+use lib.ListN.{length, take, drop, getD, length-map}
 use lib.Seq.{take-append-seam}
 use Rattle.sets.specs.Lists.{over}
 use Rattle.sets.specs.Bits.{member}
@@ -16,7 +16,7 @@ use Rattle.sets.proofs.Members.{member-zero}
 use Rattle.systems.specs.Tables.{InOrder}
 use Rattle.sheet.specs.Numbers.{number, parts}
 use Rattle.sheet.specs.Layout.{tables}
-use Rattle.sheet.specs.Sections.{stepsIn}
+use Rattle.sheet.specs.Sections.{stepsIn, Decoded}
 use Rattle.sheet.specs.Writing.{stepBytes}
 use Rattle.sheet.proofs.Numbers.{length-numbers, numbers-back}
 use Rattle.answers.specs.declared.Sizes.{Sizes}
@@ -109,16 +109,15 @@ module _ {b : List ℕ} {z : Sizes} {alphabets o d heads ends : List ℕ} (f : F
     steps-told = ap stepsIn part-told ∙ steps-back (map single (M .word)) steps-small
 
     -- V3: what running and restating it asks
-    pub word-given : WordGiven b z alphabets (take (8 * count) section′)
-    word-given =
+    pub word-given : {records : List ℕ} → Decoded (tables b) (z .n) records → WordGiven b z records (take (8 * count) section′)
+    word-given D =
         record {
           sheet = f .sheet;
-          alphabets-told = f .alphabets-told;
+          decoded = D;
           word = M .word;
           word-over = merged .over;
           word-few = let e = M .counted in let f = M .few in omega arith;
           section-told = steps-told;
-          section-room = let f = M .few in rw length-take (omega arith);
         }
 
     module _ {some : Bool} (left : LeftOver (z .n) heads′ ends some) (none : some ≡ false) where

@@ -4,14 +4,15 @@
 use mathlib.Core.Path.{_≡_, refl, sym, ap, _∙_, subst}
 use mathlib.Core.List.{List, [], _∷_, List·Memᴰ}
 use mathlib.Core.Option.{Option, none, some}
-use Prim.Native.Nat.{ℕ, _^_, _<_, _≤_}
+use Prim.Native.Nat.{ℕ, _-_, _^_, _<_, _≤_}
 use native.Mathlib.Omega.{arith}
-use lib.ListN.{length, take, length-map}
+use lib.ListN.{length, take, drop, length-map}
+use Rattle.systems.specs.Tables.{Tables}
 use Rattle.systems.specs.Running.{start}
 use Rattle.systems.specs.Checking.{Fault, firstFault, flat}
 use Rattle.sheet.specs.Bounds.{mostSteps, mostInSteps}
-use Rattle.sheet.specs.Layout.{componentCount, actionCount, transitionsAt, stepsAt, front, tablesOf, tables}
-use Rattle.sheet.specs.Sections.{stepsIn, Alphabets}
+use Rattle.sheet.specs.Layout.{componentCount, actionCount, transitionsAt, stepsAt, front, tables}
+use Rattle.sheet.specs.Sections.{stepsIn, Decoded}
 use Rattle.sheet.specs.Verdict.{accepted, Accepted, ofFault}
 use Rattle.sheet.specs.Limits.{InLimits}
 use Rattle.dependence.specs.participants.Participants.{Participants}
@@ -25,9 +26,9 @@ use Rattle.answers.proofs.Passing.{NotAccepted, stopped-by, told-accepted}
 use Rattle.answers.proofs.Restated.{accepted-limits, accepted-order, with-steps-reads, with-steps-tables, with-steps-same, with-steps-accepted}
 use Rattle.columns.specs.Merging.{single}
 use Rattle.columns.proofs.Merged.{word-fits, flat-singles, singles-small}
-use Rattle.machine.specs.Runs.{RunFromStart}
-use Rattle.machine.proofs.Running.{tables-told}
+use Rattle.machine.specs.Runs.{SystemOf, RunFromStart}
 use Rattle.desk.specs.AcceptedSheet.{AcceptedSheet, SheetGiven}
+use Rattle.desk.proofs.Parts.{tables-told, system-given}
 use Rattle.desk.proofs.Accepted.{accepted-sheet}
 use Rattle.merging.specs.Words.{WordGiven}
 
@@ -51,25 +52,28 @@ same-sizes b c z k s acc = accepted-sheet c z (ap given told ∙ ap (readOutcome
         let e : z .s ≡ stepsAt c = r .s-read ∙ s .same-steps-at in
         cc begins
 
--- S2: the tables in the bytes before the steps, by the sizes told
-parts-tables : {b : List ℕ} {z : Sizes} → AcceptedSheet b z → tablesOf (take (z .s) b) (z .n) (z .m) ≡ tables b
-parts-tables {b} {z} k = let s = k .sizes-read in tables-told b (z .n) (z .m) (z .s) (s .n-read) (s .m-read) (s .s-read)
+-- S3, S4: what the machine is handed: the decoded records and the transitions of the sheet
+pub sheet-system : {b : List ℕ} {z : Sizes} {records : List ℕ} → AcceptedSheet b z → Decoded (tables b) (z .n) records
+    → SystemOf (tables b) z records (take (z .s - z .t) (drop (z .t) b))
+sheet-system {b} {z} {records} k d =
+    let r = k .sizes-read in
+    let same = tables-told b (z .n) (z .m) (z .s) (r .n-read) (r .m-read) (r .s-read) in
+    let given =
+    system-given b z (r .n-read) (r .m-read) (r .t-read) (r .s-read) (accepted-limits b (k .sheet-accepted)) records
+    (subst (λ (T : Tables). Decoded T (z .n) records) (sym same) d) in
+    subst (λ (T : Tables). SystemOf T z records (take (z .s - z .t) (drop (z .t) b))) same given
 
 -- a verdict by faults accepts only where there is none (O3)
 no-fault : (f : Option Fault) → ofFault f ≡ accepted → f ≡ none
 no-fault none e = refl
 no-fault (some f) e = let z : _≡_ {A = ℕ} 0 1 = cc in absurd (omega arith)
 
--- ---- the answer of a run over the tables of an accepted sheet (O3, F1)
+-- ---- the answer of a run (O3, F1)
 
-module _ {b : List ℕ} {z : Sizes} (k : AcceptedSheet b z) {xs : List ℕ} {r : Answer} {held : List ℕ}
-    (h : RunFromStart (tablesOf (take (z .s) b) (z .n) (z .m)) z xs r held)
+module _ {T : Tables} {z : Sizes} {xs : List ℕ} {r : Answer} {held : List ℕ} (run : RunFromStart T z xs r held)
   where
     abbrev fault : Option Fault
-    fault = firstFault (tables b) (start (tables b)) 0 xs
-
-    run : RunFromStart (tables b) z xs r held
-    run = rw (sym (parts-tables k)) h
+    fault = firstFault T (start T) 0 xs
 
     -- O3: the sizes are told where the steps have no fault
     pub run-fine : {w : Sizes} → r ≡ AcceptedAnswer w → fault ≡ none
@@ -86,7 +90,7 @@ module _ {b : List ℕ} {z : Sizes} (k : AcceptedSheet b z) {xs : List ℕ} {r :
 
 -- ---- the sheet with the word as its steps (V3, N9)
 
-module _ {b : List ℕ} {z : Sizes} {alphabets section : List ℕ} (g : WordGiven b z alphabets section) where
+module _ {b : List ℕ} {z : Sizes} {records section : List ℕ} (g : WordGiven b z records section) where
   limits : InLimits b
   limits = accepted-limits b (g .sheet .sheet-accepted)
 
@@ -111,7 +115,7 @@ module _ {b : List ℕ} {z : Sizes} {alphabets section : List ℕ} (g : WordGive
 
   -- V3: its parts: those of b, and the section
   pub word-parts : firstFault (tables b) (start (tables b)) 0 (stepsIn section) ≡ none → {o : List ℕ}
-      → Participants (tablesOf (take (z .s) b) (z .n) (z .m)) o → SheetGiven (withSteps b (stepsIn section)) (take (z .s) b) section z o
+      → Participants (tables b) o → SheetGiven (withSteps b (stepsIn section)) (take (z .s) b) section z o
   unfolding front
   word-parts fine p =
       let reads = with-steps-reads b limits (stepsIn section) small in
@@ -120,9 +124,5 @@ module _ {b : List ℕ} {z : Sizes} {alphabets section : List ℕ} (g : WordGive
             same-sizes b (withSteps b (stepsIn section)) z (g .sheet) (with-steps-same b limits (stepsIn section) small) (with-accepted fine);
         front-told = ap (λ (k : ℕ). take k b) (g .sheet .sizes-read .s-read) ∙ sym (reads .front-before);
         steps-told = sym (reads .same-steps);
-        participants-told = rw (with-steps-tables b limits (stepsIn section) small) (rw (parts-tables (g .sheet)) at p);
+        participants-told = rw (with-steps-tables b limits (stepsIn section) small) p;
       }
-
-  -- S3: what a run asks of the alphabets: they are those of the bytes before the steps
-  pub word-alphabets : Alphabets (tablesOf (take (z .s) b) (z .n) (z .m)) (z .n) alphabets
-  word-alphabets = rw (parts-tables (g .sheet)) (g .alphabets-told)

@@ -3,14 +3,14 @@
 use mathlib.Core.Path.{_≡_}
 use mathlib.Core.List.{List, map}
 use mathlib.Core.Option.{none}
-use Prim.Native.Nat.{ℕ, _*_, _≤_}
+use Prim.Native.Nat.{ℕ, _≤_}
 use lib.ListN.{length}
 use Rattle.systems.specs.Tables.{WordOver}
 use Rattle.systems.specs.Running.{start}
 use Rattle.systems.specs.Checking.{firstFault}
-use Rattle.sheet.specs.Bounds.{stepSize, mostSteps, mostInSteps}
+use Rattle.sheet.specs.Bounds.{mostInSteps}
 use Rattle.sheet.specs.Layout.{tables}
-use Rattle.sheet.specs.Sections.{stepsIn, Alphabets}
+use Rattle.sheet.specs.Sections.{stepsIn, Decoded}
 use Rattle.answers.specs.declared.Sizes.{Sizes}
 use Rattle.answers.specs.declared.Answer.{Answer}
 use Rattle.answers.specs.Outcomes.{refused, outcomeOf}
@@ -19,15 +19,14 @@ use Rattle.desk.specs.AcceptedSheet.{AcceptedSheet}
 use Rattle.desk.specs.Calls.{RestateAnswer}
 use Rattle.columns.specs.Merging.{single}
 
--- what is known of the sheet, its alphabets and the section: that has a word over the actions of the sheet, not too long (L5, L6)
-pub record WordGiven (b : List ℕ) (z : Sizes) (alphabets section : List ℕ) : Type 0 where
+-- what is known of the sheet, its decoded records (S3) and the section: that has a word over the actions of the sheet, not too long (L5, L6)
+pub record WordGiven (b : List ℕ) (z : Sizes) (records section : List ℕ) : Type 0 where
   pub sheet : AcceptedSheet b z
-  pub alphabets-told : Alphabets (tables b) (z .n) alphabets
+  pub decoded : Decoded (tables b) (z .n) records
   pub word : List ℕ
   pub word-over : WordOver (tables b) word
   pub word-few : length word ≤ mostInSteps
   pub section-told : stepsIn section ≡ map single word
-  pub section-room : length section ≤ stepSize * mostSteps
 
 -- R19, V3: 19 where the section has a fault, and the output as it came; else what restating the sheet with the section answers and writes
 pub data WordAnswer (b section out : List ℕ) (r : Answer) (after : List ℕ) : Type 0 where

@@ -9,30 +9,32 @@ ghost use Rattle.columns.specs.Calls.{ColumnsAnswer};
 ghost use Rattle.merging.specs.Words.{WordGiven, WordAnswer};
 use answers::Answer;
 use answers::Sizes;
-use desk::alphabets;
+use desk::records;
 use desk::restate;
 use desk::verdict;
+use sheet::decoded;
 
 // 19 where the actions of the section, each a step of its own, cannot be executed over the tables of an accepted sheet; else the sheet with
 // these steps is restated into the output, or 13 where it does not fit.
 fn restate_word(
     sheet: &[u8],
     sizes: Sizes,
-    alphabets: &[u64],
+    records: &[u64],
     section: &[u8],
     out: &mut [u8],
 ) -> Answer
-    requires { ⌜ WordGiven (now sheet) sizes (now alphabets) (now section) ⌝ }
+    requires { ⌜ WordGiven (now sheet) sizes (now records) (now section) ⌝ }
     ensures { λ r. ⌜ WordAnswer (now (sheet .entry)) (now (section .entry)) (now (out .entry)) r (now (out .exit)) ⌝ }
 {
+    let t = sizes.t;
     let s = sizes.s;
     let mut participants = [0u64; 64];
     let mut held = [0u64; 16];
     let run = machine::run_from_start(
-        &sheet[..s],
+        &sheet[t..s],
         section,
         sizes,
-        alphabets,
+        records,
         &mut participants,
         &mut held,
     );
@@ -54,11 +56,12 @@ fn merge_columns(
     ensures { λ r. ⌜ ColumnsAnswer (now (sheet .entry)) (now (columns .entry)) (now (out .entry)) r (now (out .exit)) ⌝ }
 {
     let n = sizes.n;
-    let mut alphabets = [0u64; 16];
-    alphabets::alphabets_of(sheet, sizes, &mut alphabets);
+    let mut records = [0u64; 64];
+    records::records_of(sheet, sizes, &mut records);
+    let alphabets = decoded::alphabets(&records);
     let mut heads = [0usize; 16];
     let mut ends = [0usize; 16];
-    let read = legible::read_columns(columns, sizes, &alphabets, &mut heads, &mut ends);
+    let read = legible::read_columns(columns, sizes, alphabets, &mut heads, &mut ends);
     let Answer::Accepted(_) = read else {
         return read;
     };
@@ -67,7 +70,7 @@ fn merge_columns(
     if heads::some_left(&heads, &ends, n) {
         return answers::refuse(19);
     }
-    restate_word(sheet, sizes, &alphabets, &section[..8 * count], out)
+    restate_word(sheet, sizes, &records, &section[..8 * count], out)
 }
 
 // V3, O9: restates the execution whose columns are given over the tables of a sheet, and gives how many bytes were written. The refusals

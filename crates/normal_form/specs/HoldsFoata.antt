@@ -7,10 +7,13 @@ use Prim.Native.Nat.{ℕ, _-_, _≤_}
 use lib.ListN.{length, replicate}
 use Rattle.sets.specs.Bits.{setOf}
 use Rattle.traces.specs.Foata.{foata}
-use Rattle.sheet.specs.Bounds.{mostSteps}
 
--- the array holds the steps of the word's normal form under a dependence, and behind them zeros
-pub record HoldsFoata (dep : ℕ → ℕ → Bool) (w packed : List ℕ) (count : ℕ) : Type 0 where
-  pub counted : count ≡ length (foata dep w)
-  pub few : count ≤ mostSteps
-  pub packed-sets : packed ≡ map setOf (foata dep w) ++ replicate (mostSteps - count) 0
+-- the array holds the steps ss as sets, `count` of them, and behind them zeros
+pub record HoldsSteps (packed : List ℕ) (count : ℕ) (ss : List (List ℕ)) : Type 0 where
+  pub counted : count ≡ length ss
+  pub few : count ≤ length packed
+  pub packed-sets : packed ≡ map setOf ss ++ replicate (length packed - count) 0
+
+-- it holds the steps of the word's normal form under a dependence
+abbrev pub HoldsFoata : (ℕ → ℕ → Bool) → List ℕ → List ℕ → ℕ → Type 0
+HoldsFoata dep w packed count = HoldsSteps packed count (foata dep w)

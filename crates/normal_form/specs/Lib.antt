@@ -1,3 +1,3 @@
 pub mod HoldsFoata
+pub mod Words
 pub mod levels
-pub mod placing

@@ -4,14 +4,14 @@ ghost use mathlib.Core.List.{[], _∷_};
 ghost use Prim.Native.Nat.{_<_};
 ghost use lib.ListN.{length};
 ghost use Rattle.sets.specs.Bits.{members};
-ghost use Rattle.sheet.specs.Bounds.{mostComponents, mostActions, mostSteps};
+ghost use Rattle.sheet.specs.Bounds.{mostComponents, mostActions};
 ghost use Rattle.dependence.specs.participants.Participants.{OfSixteen};
+ghost use Rattle.normal_form.specs.HoldsFoata.{HoldsSteps};
 ghost use Rattle.normal_form.specs.levels.Levels.{Room};
-ghost use Rattle.normal_form.specs.placing.Placing.{PlacesWord};
+ghost use Rattle.normal_form.specs.Words.{PlacesWord};
 use crate::levels;
 
-// Places the action a in the first step that it may stand in, behind the last step of each of its participants, and gives back how
-// many steps there are then.
+// Places the action a in the first step that it may stand in, and gives back how many steps there are then.
 fn place(
     participants: &[u64],
     a: u32,
@@ -19,14 +19,12 @@ fn place(
     last: &mut [usize],
     packed: &mut [u64],
 ) -> usize
-    requires { ⌜ OfSixteen (now participants) × (length (now last) ≡ mostComponents) × (length (now packed) ≡ mostSteps)
-        × (a < mostActions) × Room (now last) 1 ⌝ }
-    ensures { λ r. ⌜ PlacesWord (now (participants .entry)) (a ∷ []) (now (last .entry)) (now (packed .entry)) count
-        (now (last .exit)) (now (packed .exit)) r ⌝ }
+    requires { ⌜ OfSixteen (now participants) × (length (now last) ≡ mostComponents) × (a < mostActions)
+        × Room (length (now packed)) (now last) 1 ⌝ }
+    ensures { λ r. ⌜ PlacesWord (now (participants .entry)) (a ∷ []) (now (last .entry)) (now (last .exit))
+        (HoldsSteps (now (packed .entry)) count) (HoldsSteps (now (packed .exit)) r) ⌝ }
 {
-    let mine = participants[a as usize];
-    let at = levels::highest(mine, 0, last);
-    levels::raise(mine, at, last);
+    let at = levels::take_level(participants, a, last);
     packed[at] = sets::with(packed[at], a);
     levels::larger(count, at + 1)
 }
@@ -39,10 +37,10 @@ pub fn place_step(
     last: &mut [usize],
     packed: &mut [u64],
 ) -> usize
-    requires { ⌜ OfSixteen (now participants) × (length (now last) ≡ mostComponents) × (length (now packed) ≡ mostSteps)
-        × Room (now last) (length (members step)) ⌝ }
-    ensures { λ r. ⌜ PlacesWord (now (participants .entry)) (members step) (now (last .entry)) (now (packed .entry)) count
-        (now (last .exit)) (now (packed .exit)) r ⌝ }
+    requires { ⌜ OfSixteen (now participants) × (length (now last) ≡ mostComponents)
+        × Room (length (now packed)) (now last) (length (members step)) ⌝ }
+    ensures { λ r. ⌜ PlacesWord (now (participants .entry)) (members step) (now (last .entry)) (now (last .exit))
+        (HoldsSteps (now (packed .entry)) count) (HoldsSteps (now (packed .exit)) r) ⌝ }
 {
     let mut steps = count;
     let mut left = step;

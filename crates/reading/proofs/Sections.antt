@@ -1,50 +1,55 @@
--- R5 to R9: the sections of a sheet whose trailer passed: what a checker answers of a part is what the refusal says of the sheet.
+-- R5 to R9: the sections of a sheet whose trailer passed: what a checker answers of a part is what the refusal says of the sheet, and the
+-- records decoded from a part are those of the sheet's tables.
 -- Assumes nothing.
-use mathlib.Core.Path.{_≡_, sym, ap, _∙_}
-use mathlib.Core.Logic.{_⊎_, inl, inr}
+use mathlib.Core.Path.{_≡_, refl, sym, ap, _∙_}
+use mathlib.Core.Logic.{_≢_}
 use mathlib.Core.Bool.{Bool, true, false, not}
 use mathlib.Core.List.{List, map}
 use Prim.Native.Nat.{ℕ, _+_, _-_, _*_, _/_, _≤_, _<_}
 use native.Mathlib.Omega.{arith}
-use lib.Dec.{leb, ltb}
-use lib.ListN.{length, getD, take, drop, length-take, length-drop}
+use lib.Dec.{ltb}
+use lib.ListN.{length, take, drop, length-take, length-drop}
 use Rattle.sets.specs.Lists.{anyOf, below}
 use Rattle.sets.specs.Bits.{member}
-use Rattle.sets.proofs.Bools.{true-or-false, leb-false}
 use Rattle.sets.proofs.Lists.{mem-below, anyOf-same, drop-take}
-use Rattle.systems.specs.Tables.{Transition, Tables}
 use Rattle.systems.specs.Checking.{flat}
 use Rattle.sheet.specs.Bounds.{recordSize, stepSize, trailerSize, mostSteps, mostInSteps}
 use Rattle.sheet.specs.Numbers.{number, field, parts}
 use Rattle.sheet.specs.Layout.{componentCount, front, statesOf, fillerOf, initialOf, alphabetOf, transitionBytes, transitionOf, tablesOf, tables, stepCount, steps}
 use Rattle.sheet.specs.Refusals.{recordWrong, recordsWrong, actionUnused, transitionWrong, transitionsWrong, risingBytes, orderWrong, tooManyActions}
-use Rattle.sheet.specs.Sections.{stepsIn, sectionTables, Alphabets}
-use Rattle.sheet.proofs.Sections.{alphabets-made, alphabets-each}
+use Rattle.sheet.specs.Verdict.{Verdict, refuseIf}
+use Rattle.sheet.specs.Sections.{stepsIn, transitionsIn, alphabetAt, Decoded}
+use Rattle.sheet.proofs.Sections.{decoded-same}
 use Rattle.sheet.proofs.Numbers.{field-within, parts-part}
 use Rattle.answers.specs.declared.Sizes.{Sizes}
 use Rattle.answers.specs.SizesRead.{SizesRead}
 use Rattle.reading.specs.Reading.{upToTrailer}
 use Rattle.reading.specs.records.Alphabets.{unusedIn}
+use Rattle.reading.specs.transitions.Fitting.{sevenOrEight}
 
 -- ---- two tests that agree
 
 same-below : (p q : ℕ → Bool) (n : ℕ) → ((i : ℕ) → i < n → p i ≡ q i) → anyOf p (below n) ≡ anyOf q (below n)
 same-below p q n h = anyOf-same p q (below n) (λ i m. h i (mem-below n i .0 m))
 
--- ---- a transition, in two tables with the same components below their number
+-- ---- refusals 7 and 8, told by one number (O1)
 
-wrong-same : (A B : Tables) (t : Transition) → A .components ≡ B .components
-    → ((j : ℕ) → j < A .components → (A .states j ≡ B .states j) × (A .alphabet j ≡ B .alphabet j))
-    → transitionWrong A t ≡ transitionWrong B t
-unfolding transitionWrong
-wrong-same A B t e h = go (true-or-false (leb (A .components) (t .component)))
-  where
-    go : (leb (A .components) (t .component) ≡ true) ⊎ (leb (A .components) (t .component) ≡ false)
-        → transitionWrong A t ≡ transitionWrong B t
-    go (inl w) = rw (← e, w)
-    go (inr w) =
-        let same = h (t .component) (leb-false (A .components) (t .component) .0 w) in
-        rw (e, same .0, same .1)
+module _ (p q : Bool) (k : ℕ) (v : Verdict) (e : k ≡ sevenOrEight p q) where
+  pub two-refused : k ≢ 0 → refuseIf p 7 (refuseIf q 8 v) ≡ Verdict.refused k 0
+  two-refused n = go p q e
+    where
+      go : (x y : Bool) → k ≡ sevenOrEight x y → refuseIf x 7 (refuseIf y 8 v) ≡ Verdict.refused k 0
+      go true y f = ap (λ (i : ℕ). Verdict.refused i 0) (sym f)
+      go false true f = ap (λ (i : ℕ). Verdict.refused i 0) (sym f)
+      go false false f = absurd (n f)
+
+  pub two-passed : k ≡ 0 → refuseIf p 7 (refuseIf q 8 v) ≡ v
+  two-passed n = go p q e
+    where
+      go : (x y : Bool) → k ≡ sevenOrEight x y → refuseIf x 7 (refuseIf y 8 v) ≡ v
+      go true y f = absurd (omega arith)
+      go false true f = absurd (omega arith)
+      go false false f = refl
 
 -- ---- the sections of a sheet whose trailer passed (S2, F6)
 
@@ -94,10 +99,22 @@ module _ {b : List ℕ} {z : Sizes} (r : SizesRead b z) where
     unfolding recordWrong
     record-same = rw (states-same, filler-same, initial-same, alphabet-same)
 
-  pub alphabets-part : {l : List ℕ} → Alphabets (tablesOf (recordsPart b z) (z .n) (z .m)) (z .n) l → Alphabets (tablesOf (take (z .s) b) (z .n) (z .m)) (z .n) l
-  alphabets-part {l} h =
+  -- the records decoded from their section are those of the bytes before the steps
+  pub decoded-part : {l : List ℕ} → Decoded (tablesOf (recordsPart b z) (z .n) (z .m)) (z .n) l
+      → Decoded (tablesOf (take (z .s) b) (z .n) (z .m)) (z .n) l
+  unfolding tablesOf
+  decoded-part {l} D =
       rw front-read
-      (alphabets-made (front b) (z .n) (z .m) l (h .size) (λ j k. alphabets-each (recordsPart b z) (z .n) (z .m) l h j k ∙ alphabet-same j k))
+      (decoded-same (tablesOf (recordsPart b z) (z .n) (z .m)) (tablesOf (front b) (z .n) (z .m)) (z .n) l refl
+      (λ j k. (states-same j k, initial-same j k, alphabet-same j k)) D)
+
+  -- and so those of the sheet's tables
+  tables-read : tablesOf (take (z .s) b) (z .n) (z .m) ≡ tables b
+  unfolding tables
+  tables-read = rw (front-read, r .n-read, r .m-read)
+
+  pub decoded-read : {l : List ℕ} → Decoded (tablesOf (recordsPart b z) (z .n) (z .m)) (z .n) l → Decoded (tables b) (z .n) l
+  decoded-read D = rw tables-read at (decoded-part D)
 
   transition-bytes : parts 4 (length (transitionsPart b z) / 4) (transitionsPart b z) ≡ transitionBytes (front b) (componentCount b)
   unfolding transitionBytes front
@@ -124,36 +141,26 @@ module _ {b : List ℕ} {z : Sizes} (r : SizesRead b z) where
   records-told e =
       rw (← r .n-read, ← r .m-read) (sym (e ∙ same-below (recordWrong (recordsPart b z) (z .m)) (recordWrong (front b) (z .m)) (z .n) record-same))
 
-  -- R6, of an array with the alphabets
-  pub actions-told : {l : List ℕ} → Alphabets (tablesOf (recordsPart b z) (z .n) (z .m)) (z .n) l → {x : Bool} → x ≡ unusedIn l (z .n) (z .m) → actionUnused b ≡ x
-  unfolding actionUnused tables tablesOf
-  actions-told {l} h e =
+  -- R6, of the decoded records
+  pub actions-told : {l : List ℕ} → Decoded (tables b) (z .n) l → {x : Bool} → x ≡ unusedIn l (z .n) (z .m) → actionUnused b ≡ x
+  unfolding actionUnused
+  actions-told {l} D e =
       rw (← r .n-read, ← r .m-read)
       (sym
       (e
-      ∙ same-below (λ a. not (anyOf (λ j. member (getD l j 0) a) (below (z .n)))) _ (z .m)
+      ∙ same-below (λ a. not (anyOf (λ j. member (alphabetAt l j) a) (below (z .n)))) _ (z .m)
       (λ a m. ap not
-      (same-below (λ j. member (getD l j 0) a) _ (z .n) (λ j k. ap (λ (x : ℕ). member x a) (h .each j k ∙ alphabet-same j k))))))
+      (same-below (λ j. member (alphabetAt l j) a) _ (z .n) (λ j k. ap (λ (x : ℕ). member x a) (D .alphabet-told j k))))))
 
-  -- R7
-  pub transitions-told : {x : Bool}
-      → x
-      ≡ anyOf (transitionWrong (sectionTables (recordsPart b z) (transitionsPart b z) (z .n) 0))
-      (map transitionOf (parts 4 (length (transitionsPart b z) / 4) (transitionsPart b z)))
-      → transitionsWrong b ≡ x
-  unfolding transitionsWrong tables tablesOf
+  -- R7 and R8
+  pub transitions-told : {k : ℕ}
+      → k
+      ≡ sevenOrEight (anyOf (transitionWrong (tables b)) (transitionsIn (transitionsPart b z)))
+      (not (risingBytes (parts 4 (length (transitionsPart b z) / 4) (transitionsPart b z))))
+      → k ≡ sevenOrEight (transitionsWrong b) (orderWrong b)
+  unfolding transitionsWrong orderWrong tables tablesOf
   transitions-told e =
-      let T = sectionTables (recordsPart b z) (transitionsPart b z) (z .n) 0 in
-      sym
-      (e
-      ∙ ap (λ (l : List (List ℕ)). anyOf (transitionWrong T) (map transitionOf l)) transition-bytes
-      ∙ anyOf-same (transitionWrong T) (transitionWrong (tables b)) (tables b .transitions)
-      (λ t m. wrong-same T (tables b) t (r .n-read) (λ j l. (states-same j l, alphabet-same j l))))
-
-  -- R8
-  pub order-told : {x : Bool} → x ≡ not (risingBytes (parts 4 (length (transitionsPart b z) / 4) (transitionsPart b z))) → orderWrong b ≡ x
-  unfolding orderWrong
-  order-told e = sym (e ∙ ap (λ (l : List (List ℕ)). not (risingBytes l)) transition-bytes)
+      e ∙ ap (λ (l : List (List ℕ)). sevenOrEight (anyOf (transitionWrong (tables b)) (map transitionOf l)) (not (risingBytes l))) transition-bytes
 
   -- R9
   pub count-told : {x : ℕ} → x ≡ length (flat (stepsIn (stepsPart b z))) → tooManyActions b ≡ ltb mostInSteps x

@@ -10,7 +10,7 @@ ghost use Rattle.systems.specs.Checking.{flat};
 ghost use Rattle.sheet.specs.Bounds.{recordSize, stepSize, trailerSize, mostComponents, mostSteps};
 ghost use Rattle.sheet.specs.Layout.{tablesOf};
 ghost use Rattle.sheet.specs.Verdict.{accepted, trailerVerdict, tablesVerdict};
-ghost use Rattle.sheet.specs.Sections.{stepsIn, Alphabets};
+ghost use Rattle.sheet.specs.Sections.{stepsIn, Decoded};
 ghost use Rattle.answers.specs.declared.Answer.the-variants.{Accepted};
 ghost use Rattle.answers.specs.Outcomes.{outcomeOf, readOutcome};
 ghost use Rattle.reading.specs.Reading.{TrailerPassed, upToTrailer};
@@ -50,14 +50,15 @@ pub fn read_trailer(sheet: &[u8]) -> Answer
     sizes(sheet)
 }
 
-// Puts the alphabets of n records into `found`.
-pub fn alphabets(records: &[u8], n: usize, found: &mut [u64])
-    requires { ⌜ (n ≤ mostComponents) × (recordSize * n ≤ length (now records)) × (length (now found) ≡ mostComponents) ⌝ }
-    ensures { λ _. ⌜ ((m : ℕ) → Alphabets (tablesOf (now (records .entry)) n m) n (now (found .exit))) ⌝ }
+// Puts the decoded records of n components into `records`.
+pub fn decode(section: &[u8], n: usize, records: &mut [u64])
+    requires { ⌜ (n ≤ mostComponents) × (recordSize * n ≤ length (now section)) × (length (now records) ≡ 4 * mostComponents) ⌝ }
+    ensures { λ _. ⌜ ((m : ℕ) → Decoded (tablesOf (now (section .entry)) n m) n (now (records .exit))) ⌝ }
 {
+    let mut base = 0;
     let mut j = 0;
     while j < n {
-        found[j] = numbers::number8(records, 16 * j + 8);
+        base = records::decode_record(section, j, base, records);
         j += 1;
     }
 }
@@ -85,29 +86,27 @@ pub fn actions_in(section: &[u8]) -> u64
     sum
 }
 
-// Refusals 5 to 9 of a sheet whose trailer passed: the first that holds, or the sizes. Of a sheet that passes, the alphabets are left in `found`.
-pub fn read_tables(sheet: &[u8], sizes: Sizes, found: &mut [u64]) -> Answer
-    requires { ⌜ TrailerPassed (now sheet) sizes × (length (now found) ≡ mostComponents) ⌝ }
+// Refusals 5 to 9 of a sheet whose trailer passed: the first that holds, or the sizes. Of a sheet that passes, the decoded records are left
+// in `records`.
+pub fn read_tables(sheet: &[u8], sizes: Sizes, records: &mut [u64]) -> Answer
+    requires { ⌜ TrailerPassed (now sheet) sizes × (length (now records) ≡ 4 * mostComponents) ⌝ }
     ensures { λ r. ⌜ (outcomeOf r ≡ readOutcome (now (sheet .entry)) (tablesVerdict (now (sheet .entry)) accepted))
-        × (r ≡ Accepted sizes → Alphabets (tablesOf (take (sizes .s) (now (sheet .entry))) (sizes .n) (sizes .m)) (sizes .n) (now (found .exit))) ⌝ }
+        × (r ≡ Accepted sizes → Decoded (tablesOf (take (sizes .s) (now (sheet .entry))) (sizes .n) (sizes .m)) (sizes .n) (now (records .exit))) ⌝ }
 {
     let n = sizes.n;
     let t = sizes.t;
     let s = sizes.s;
-    let records = &sheet[0..t];
-    let section = &sheet[t..s];
-    if records::records_wrong(records, n, sizes.m as u64) {
+    let front = &sheet[0..t];
+    if records::records_wrong(front, n, sizes.m as u64) {
         return answers::refuse(5);
     }
-    alphabets(records, n, found);
-    if records::action_unused(found, n, sizes.m as u32) {
+    decode(front, n, records);
+    if records::action_unused(records, n, sizes.m as u32) {
         return answers::refuse(6);
     }
-    if transitions::transitions_wrong(section, records, found, n) {
-        return answers::refuse(7);
-    }
-    if transitions::order_wrong(section) {
-        return answers::refuse(8);
+    let refusal = transitions::refusal(&sheet[t..s], records, n);
+    if refusal != 0 {
+        return answers::refuse(refusal);
     }
     if 1024 < actions_in(step_section(sheet, s)) {
         return answers::refuse(9);

@@ -1,7 +1,7 @@
-// Refusals 5 and 6: the component records of a sheet, handed over as a part of it, and the alphabets that they hold.
+// Refusals 5 and 6: the component records of a sheet, handed over as a part of it, and one of them decoded.
 ghost use mathlib.Core.Path.{_≡_};
 ghost use mathlib.Core.Bool.{not};
-ghost use Prim.Native.Nat.{_+_, _-_, _*_, _^_, _≤_};
+ghost use Prim.Native.Nat.{_+_, _-_, _*_, _^_, _≤_, _<_};
 ghost use lib.Dec.{eqb};
 ghost use lib.ListN.{length};
 ghost use Rattle.sets.specs.Lists.{anyOf, below};
@@ -9,7 +9,9 @@ ghost use Rattle.sheet.specs.Bounds.{recordSize, mostComponents, mostActions};
 ghost use Rattle.sheet.specs.Numbers.{field};
 ghost use Rattle.sheet.specs.Refusals.{recordWrong};
 ghost use Rattle.reading.specs.records.Alphabets.{UnionOfAlphabets, unusedIn};
+ghost use Rattle.reading.specs.records.Decoding.{DecodedUpTo};
 use crate::trailer;
+use sheet::decoded;
 
 // Whether one of the three bytes at `at` is not zero.
 fn filler_set(s: &[u8], at: usize) -> bool
@@ -49,15 +51,32 @@ pub fn records_wrong(records: &[u8], n: usize, m: u64) -> bool
     false
 }
 
-// The actions of the first n alphabets together.
-fn actions_used(alphabets: &[u64], n: usize) -> u64
-    requires { ⌜ n ≤ length (now alphabets) ⌝ }
-    ensures { λ r. ⌜ UnionOfAlphabets (now (alphabets .entry)) n r ⌝ }
+// Puts the four entries of the record with index j, whose component's states begin at `base`, into their places. Tells where those of the
+// next one begin.
+pub fn decode_record(section: &[u8], j: usize, base: u64, records: &mut [u64]) -> u64
+    requires { ⌜ (j < mostComponents) × (recordSize * j + recordSize ≤ length (now section)) × DecodedUpTo (now section) j base (now records) ⌝ }
+    ensures { λ r. ⌜ DecodedUpTo (now (section .entry)) (j + 1) r (now (records .exit)) ⌝ }
+{
+    let at = 16 * j;
+    let states = numbers::wide(section[at]);
+    let initial = numbers::number4(section, at + 4);
+    let alphabet = numbers::number8(section, at + 8);
+    records[j] = states;
+    records[16 + j] = initial;
+    records[32 + j] = alphabet;
+    records[48 + j] = base;
+    base + states
+}
+
+// The actions of the alphabets of the first n components together.
+fn actions_used(records: &[u64], n: usize) -> u64
+    requires { ⌜ (n ≤ mostComponents) × (length (now records) ≡ 4 * mostComponents) ⌝ }
+    ensures { λ r. ⌜ UnionOfAlphabets (now (records .entry)) n r ⌝ }
 {
     let mut all = 0;
     let mut j = 0;
     while j < n {
-        all = all | alphabets[j];
+        all = all | decoded::alphabet(records, j);
         j += 1;
     }
     all
@@ -74,11 +93,11 @@ fn all_actions(m: u32) -> u64
     (1u64 << m) - 1
 }
 
-// 6: whether the n alphabets leave out one of the m actions.
-pub fn action_unused(alphabets: &[u64], n: usize, m: u32) -> bool
-    requires { ⌜ (m ≤ mostActions) × (n ≤ length (now alphabets)) ⌝ }
-    ensures { λ r. ⌜ r ≡ unusedIn (now (alphabets .entry)) n m ⌝ }
+// 6: whether the alphabets of the first n components leave out one of the m actions.
+pub fn action_unused(records: &[u64], n: usize, m: u32) -> bool
+    requires { ⌜ (m ≤ mostActions) × (n ≤ mostComponents) × (length (now records) ≡ 4 * mostComponents) ⌝ }
+    ensures { λ r. ⌜ r ≡ unusedIn (now (records .entry)) n m ⌝ }
 {
     let all = all_actions(m);
-    (actions_used(alphabets, n) & all) != all
+    (actions_used(records, n) & all) != all
 }

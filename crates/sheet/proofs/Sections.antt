@@ -1,17 +1,18 @@
--- The steps of a step section: how many there are, each as it is read from its 8 bytes (S5), and their actions step by step (N2). The
--- alphabets of records, read one by one (S3).
+-- The steps of a step section: how many there are, each as it is read from its 8 bytes (S5), and their actions step by step (N2).
+-- Decoded records, which are those of all tables with the same components (S3).
 -- Assumes nothing.
 use mathlib.Core.Path.{_≡_, refl, sym, ap, ap₂, _∙_}
 use mathlib.Core.List.{List, [], _++_}
-use Prim.Native.Nat.{ℕ, _+_, _*_, _/_, _≤_, _<_}
+use Prim.Native.Nat.{ℕ, zero, suc, _+_, _*_, _/_, _≤_, _<_}
 use native.Mathlib.Numerals.{add-one}
+use native.Mathlib.Omega.{arith}
 use lib.ListN.{length, getD, drop, drop-of-length-le}
 use lib.Seq.{drop-cons}
 use Rattle.sets.specs.Bits.{members}
+use Rattle.systems.specs.Tables.{Tables}
 use Rattle.systems.specs.Checking.{flat}
 use Rattle.sheet.specs.Numbers.{field}
-use Rattle.sheet.specs.Layout.{alphabetOf, tablesOf}
-use Rattle.sheet.specs.Sections.{stepsIn, Alphabets}
+use Rattle.sheet.specs.Sections.{stepsIn, baseOf, Decoded}
 use Rattle.sheet.proofs.Numbers.{numbers-length, numbers-at}
 
 module _ (b : List ℕ) where
@@ -33,14 +34,27 @@ module _ (b : List ℕ) where
   pub flat-none : (k : ℕ) → length b / 8 ≤ k → flat (drop k (stepsIn b)) ≡ []
   flat-none k h = ap flat (drop-of-length-le (stepsIn b) {i = k} (rw stepsIn-length h))
 
--- ---- alphabets (S3)
+-- ---- decoded records (S3)
 
--- an array with the alphabets of n records has those of the tables that stand there
-module _ (b : List ℕ) (n m : ℕ) (l : List ℕ) where
-  pub alphabets-made : length l ≡ 16 → ((j : ℕ) → j < n → getD l j 0 ≡ alphabetOf b j) → Alphabets (tablesOf b n m) n l
-  unfolding tablesOf
-  alphabets-made size each = record { size = size; count = refl; each = each }
+-- where the states of component k begin follows from the numbers of states of the components before it
+pub base-same : (A B : Tables) (k : ℕ) → ((i : ℕ) → i < k → A .states i ≡ B .states i) → baseOf A k ≡ baseOf B k
+base-same A B zero h = refl
+base-same A B (suc k) h = ap₂ (λ (x y : ℕ). x + y) (base-same A B k (λ i l. h i (omega arith))) (h k (omega arith))
 
-  pub alphabets-each : Alphabets (tablesOf b n m) n l → (j : ℕ) → j < n → getD l j 0 ≡ alphabetOf b j
-  unfolding tablesOf
-  alphabets-each A = A .each
+-- the two tables say the same of component j
+abbrev pub SameComponent : Tables → Tables → ℕ → Type 0
+SameComponent A B j = (A .states j ≡ B .states j) × (A .initial j ≡ B .initial j) × (A .alphabet j ≡ B .alphabet j)
+
+-- the decoded records of some tables are those of any others with the same components
+pub decoded-same : (A B : Tables) (n : ℕ) (l : List ℕ) → A .components ≡ B .components → ((j : ℕ) → j < n → SameComponent A B j)
+    → Decoded A n l → Decoded B n l
+decoded-same A B n l e same D =
+    record {
+      size = D .size;
+      count = D .count ∙ e;
+      few = D .few;
+      states-told = λ j h. D .states-told j h ∙ same j h .0;
+      initial-told = λ j h. D .initial-told j h ∙ same j h .1;
+      alphabet-told = λ j h. D .alphabet-told j h ∙ same j h .2;
+      base-told = λ j h. D .base-told j h ∙ base-same A B j (λ i b. same i (omega arith) .0);
+    }

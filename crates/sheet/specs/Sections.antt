@@ -1,33 +1,56 @@
--- The sections of a sheet apart: the steps that stand in a step section, the tables in a records section and a transition section, and an
--- array of alphabets.
+-- The sections of a sheet apart: the steps that stand in a step section and the transitions in a transition section; an array of alphabets,
+-- and the records decoded into an array.
 -- Assumes nothing.
 use mathlib.Core.Path.{_≡_}
 use mathlib.Core.List.{List, map}
-use Prim.Native.Nat.{ℕ, _/_, _<_}
+use Prim.Native.Nat.{ℕ, zero, suc, _+_, _*_, _/_, _<_, _≤_}
 use lib.ListN.{length, getD}
-use Rattle.systems.specs.Tables.{Tables}
+use Rattle.systems.specs.Tables.{Transition, Tables}
 use Rattle.sheet.specs.Bounds.{transitionSize, stepSize, mostComponents}
 use Rattle.sheet.specs.Numbers.{number, parts}
-use Rattle.sheet.specs.Layout.{statesOf, initialOf, alphabetOf, transitionOf}
+use Rattle.sheet.specs.Layout.{transitionOf}
 
 -- S5: the steps that stand in the bytes of a step section, 8 bytes each
 abbrev pub stepsIn : List ℕ → List ℕ
 stepsIn b = map number (parts stepSize (length b / stepSize) b)
 
--- the tables that stand in a records section and a transition section (S2 to S4)
-abbrev pub sectionTables : List ℕ → List ℕ → ℕ → ℕ → Tables
-sectionTables records section n m =
-    record {
-      components = n;
-      actions = m;
-      states = statesOf records;
-      initial = initialOf records;
-      alphabet = alphabetOf records;
-      transitions = map transitionOf (parts transitionSize (length section / transitionSize) section);
-    }
+-- S4: the transitions that stand in the bytes of a transition section, 4 bytes each
+abbrev pub transitionsIn : List ℕ → List Transition
+transitionsIn b = map transitionOf (parts transitionSize (length b / transitionSize) b)
 
 -- an array of 16 sets, the first n of them the alphabets of the n components of T (S3)
 pub record Alphabets (T : Tables) (n : ℕ) (l : List ℕ) : Type 0 where
   pub size : length l ≡ mostComponents
   pub count : n ≡ T .components
   pub each : (j : ℕ) → j < n → getD l j 0 ≡ T .alphabet j
+
+-- ---- the records, decoded (S3)
+
+-- where the states of component j begin, when the states of all components are numbered one after another
+abbrev pub baseOf : Tables → ℕ → ℕ
+baseOf T zero = 0
+baseOf T (suc j) = baseOf T j + T .states j
+
+-- the four entries of component j in an array of decoded records: its number of states, its initial set, its alphabet, and where its
+-- states begin. The entries of one kind stand side by side.
+abbrev pub statesAt : List ℕ → ℕ → ℕ
+statesAt l j = getD l j 0
+
+abbrev pub initialAt : List ℕ → ℕ → ℕ
+initialAt l j = getD l (mostComponents + j) 0
+
+abbrev pub alphabetAt : List ℕ → ℕ → ℕ
+alphabetAt l j = getD l (2 * mostComponents + j) 0
+
+abbrev pub baseAt : List ℕ → ℕ → ℕ
+baseAt l j = getD l (3 * mostComponents + j) 0
+
+-- the decoded records of the n components of T (S3)
+pub record Decoded (T : Tables) (n : ℕ) (l : List ℕ) : Type 0 where
+  pub size : length l ≡ 4 * mostComponents
+  pub count : n ≡ T .components
+  pub few : n ≤ mostComponents
+  pub states-told : (j : ℕ) → j < n → statesAt l j ≡ T .states j
+  pub initial-told : (j : ℕ) → j < n → initialAt l j ≡ T .initial j
+  pub alphabet-told : (j : ℕ) → j < n → alphabetAt l j ≡ T .alphabet j
+  pub base-told : (j : ℕ) → j < n → baseAt l j ≡ baseOf T j

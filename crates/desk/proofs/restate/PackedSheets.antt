@@ -54,40 +54,43 @@ module _ (b before section : List ℕ) (z : Sizes) (o : List ℕ) (g : SheetGive
   pub given-front : length before < 65536
   given-front = rw (g .front-told) (front-short b (accepted-limits b (g .sheet .sheet-accepted)))
 
-  module _ (packed : List ℕ) (count : ℕ)
+  -- the normal form of the actions read
+  abbrev placed : List (List ℕ)
+  placed = foata (dependent (tables b)) (flat (stepsIn section))
+
+  placed-told : map setOf placed ≡ restatedSteps b
+  placed-told = ap (λ (ys : List ℕ). map setOf (foata (dependent (tables b)) (flat ys))) (g .steps-told) ∙ sym (restated-normal b)
+
+  -- what holds of the actions read for all tables that fit holds of the sheet's own
+  of-sheet : {P : Tables → Type 0} → ((T : Tables) → InOrder T → Participants T o → WordOver T (flat (stepsIn section)) → P T) → P (tables b)
+  of-sheet h =
+      let acc = g .sheet .sheet-accepted in
+      h (tables b) (accepted-order b acc) (g .participants-told) (rw (g .steps-told) (steps-below b acc))
+
+  -- N8: so many steps as the normal form has are as many as the sheet has restated
+  pub counted-told : (count : ℕ) → count ≡ length placed → count ≡ length (restatedSteps b)
+  counted-told count e = e ∙ sym (length-map placed setOf) ∙ ap length placed-told
+
+  module _ (packed : List ℕ) (count : ℕ) (whole : length packed ≡ mostSteps)
       (h : (T : Tables) → InOrder T → Participants T o → WordOver T (flat (stepsIn section))
       → HoldsFoata (dependent T) (flat (stepsIn section)) packed count)
     where
-      -- the normal form of the actions read
-      abbrev placed : List (List ℕ)
-      placed = foata (dependent (tables b)) (flat (stepsIn section))
-
       holds : HoldsFoata (dependent (tables b)) (flat (stepsIn section)) packed count
-      holds =
-          let acc = g .sheet .sheet-accepted in
-          h (tables b) (accepted-order b acc) (g .participants-told) (rw (g .steps-told) (steps-below b acc))
-
-      placed-told : map setOf placed ≡ restatedSteps b
-      placed-told = ap (λ (ys : List ℕ). map setOf (foata (dependent (tables b)) (flat ys))) (g .steps-told) ∙ sym (restated-normal b)
-
-      count-sets : count ≡ length (map setOf placed)
-      count-sets = holds .counted ∙ sym (length-map placed setOf)
-
-      whole : length packed ≡ mostSteps
-      whole =
-          let f = holds .few in
-          let e = count-sets in
-          let z = length-replicate {A = ℕ} (mostSteps - count) 0 in
-          ap length (holds .packed-sets) ∙ length-append (map setOf placed) (replicate (mostSteps - count) 0) ∙ omega arith
+      holds = of-sheet {P = λ T. HoldsFoata (dependent T) (flat (stepsIn section)) packed count} h
 
       -- N8: packed, they are the restated steps
       pub packed-told : PackedSteps b packed count
       packed-told =
           record {
             size = whole;
-            counted = count-sets ∙ ap length placed-told;
-            few = holds .few;
-            sets = ap₂ take count-sets (holds .packed-sets)
-                ∙ take-append-seam (map setOf placed) (replicate (mostSteps - count) 0)
+            counted = counted-told count (holds .counted);
+            few = let f = holds .few in omega arith;
+            sets = ap₂ take (holds .counted ∙ sym (length-map placed setOf)) (holds .packed-sets)
+                ∙ take-append-seam (map setOf placed) (replicate (length packed - count) 0)
                 ∙ placed-told;
           }
+
+  -- and counted alone
+  pub levels-told : (count : ℕ) → ((T : Tables) → InOrder T → Participants T o → WordOver T (flat (stepsIn section))
+      → count ≡ length (foata (dependent T) (flat (stepsIn section)))) → count ≡ length (restatedSteps b)
+  levels-told count h = counted-told count (of-sheet {P = λ T. count ≡ length (foata (dependent T) (flat (stepsIn section)))} h)

@@ -4,7 +4,7 @@ use mathlib.Core.Path.{_≡_, refl, sym, ap, ap₂, subst, _∙_}
 use mathlib.Core.List.{List}
 use Prim.Native.Nat.{ℕ, _-_}
 use native.Mathlib.Omega.{arith}
-use lib.ListN.{length, take}
+use lib.ListN.{length, take, drop}
 use lib.Seq.{take-all}
 use Rattle.systems.specs.Running.{start}
 use Rattle.systems.specs.Checking.{firstFault}
@@ -24,9 +24,9 @@ use Rattle.answers.proofs.Restated.{accepted-fine}
 use Rattle.answers.proofs.Passing.{NotAccepted, IsRefusal, stopped-by, told-accepted, same-sizes}
 use Rattle.reading.specs.Reading.{TrailerPassed, upToTrailer}
 use Rattle.reading.proofs.Passing.{trailer-then}
-use Rattle.sheet.specs.Sections.{stepsIn}
-use Rattle.machine.specs.Runs.{RunFromStart}
-use Rattle.machine.proofs.Running.{tables-told}
+use Rattle.sheet.specs.Sections.{stepsIn, Decoded}
+use Rattle.machine.specs.Runs.{SystemOf, RunFromStart}
+use Rattle.desk.proofs.Parts.{tables-told, system-given}
 use Rattle.desk.specs.Left.{ToldWithSizes, EndsLeft, ParticipantsLeft}
 
 -- ---- a refused sheet leaves nothing that is promised
@@ -102,6 +102,13 @@ module _ (b : List ℕ) (z : Sizes) (t : TrailerPassed b z) where
     abbrev same-tables : tablesOf (take (w .s) b) (w .n) (w .m) ≡ tables b
     same-tables = tables-told b (w .n) (w .m) (w .s) (tables-told-accepted .1) (tables-told-accepted .2) (tables-told-accepted .4)
 
+    -- what the machine is handed (S3, S4)
+    pub system-read : (records : List ℕ) → Decoded (tablesOf (take (w .s) b) (w .n) (w .m)) (w .n) records
+        → SystemOf (tablesOf (take (w .s) b) (w .n) (w .m)) w records (take (w .s - w .t) (drop (w .t) b))
+    system-read =
+        let told = tables-told-accepted in
+        system-given b w (told .1) (told .2) (told .3) (told .4) read-limits
+
     -- the run over the parts is that of the sheet
     module _ (p : List ℕ) (part : p ≡ upToTrailer (w .s) b) (r : Answer) (held : List ℕ)
         (h : RunFromStart (tablesOf (take (w .s) b) (w .n) (w .m)) w (stepsIn p) r held) where
@@ -125,6 +132,9 @@ module _ (b : List ℕ) where
 
   pub trailer-part : (z : Sizes) → TrailerPassed b z → TrailerPassed (take (length b - 0) b) z
   trailer-part z e = subst (λ (x : List ℕ). TrailerPassed x z) (sym part-whole) e
+
+  pub participants-part : {l : List ℕ} → ParticipantsLeft (take (length b - 0) b) l → ParticipantsLeft b l
+  participants-part {l} h = subst (λ (x : List ℕ). ParticipantsLeft x l) part-whole h
 
   pub ends-part : (z : Sizes) → TrailerPassed b z → {a r : Answer} {held : List ℕ} → EndsLeft (take (length b - 0) b) a held
       → ToldWithSizes a z r → EndsLeft b r held

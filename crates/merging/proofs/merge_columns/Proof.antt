@@ -7,18 +7,36 @@ use Prim.Native.Nat.{ℕ}
 use native.Mathlib.Omega.{arith}
 use lib.ListN.{length-take}
 use borrow.Author.Needs.{needs}
+use Rattle.sheet.specs.Layout.{tables}
+use Rattle.sheet.specs.Sections.{Alphabets}
 use Rattle.answers.specs.Outcomes.{outcomeOf}
 use Rattle.columns.specs.Calls.{ColumnsAnswer}
+use Rattle.desk.proofs.Parts.{decoded-alphabets}
 use Rattle.merging.proofs.LinedColumns.{not-legible, Found, found-by, columns-found, few-left, lined}
 use Rattle.merging.proofs.MergedColumns.{left-not, word-given, word-answered}
 use Rattle.merging.proofs.merge_columns.Statement.{statement}
 use Rattle.merging.proofs.merge_columns.Tie as tie
 
-abbrev alphabets-at : tie.After-read-columns → tie.After-alphabets-of
-alphabets-at c = c .before .before .before .before .before
+abbrev records-at : tie.After-alphabets → tie.After-records-of
+records-at c = c .before .before .before
 
-abbrev start-at : tie.After-read-columns → tie.Start
-start-at c = alphabets-at c .before .before .before .before .before .before
+abbrev start-at : tie.After-alphabets → tie.Start
+start-at c = records-at c .before .before .before .before .before .before
+
+-- the alphabets of the sheet, among its records
+alphabets-told : (c : tie.After-alphabets)
+    → let a = start-at c .args in Alphabets (tables (a .sheet .now)) (a .sizes .n) (c .alphabets .result .now)
+alphabets-told c = decoded-alphabets (records-at c .records-of .ensures) (c .alphabets .ensures)
+
+read-columns-requires : tie.Need-read-columns-requires
+read-columns-requires c κs =
+    let named = c .before .before in
+    let few = start-at named .pre .0 .sizes-read .n-high in
+    let size = alphabets-told named .size in
+    (omega arith, omega arith, refl, refl)
+
+abbrev named-at : tie.After-read-columns → tie.After-alphabets
+named-at c = c .before .before .before
 
 -- what the reader left
 abbrev heads-at : tie.After-read-columns → List ℕ
@@ -30,9 +48,10 @@ ends-at c = c .read-columns .last .1 .1 .1 .1 .0
 returns : tie.Need-returns
 returns c =
     let read = c .before .before .before in
-    let k = start-at read .pre .0 in
+    let named = named-at read in
+    let k = start-at named .pre .0 in
     let told = read .read-columns in
-    let no = not-legible k (alphabets-at read .alphabets-of .ensures) (heads-at read) (ends-at read) (told .result) (c .match .keys2) (told .ensures) in
+    let no = not-legible k (alphabets-told named) (heads-at read) (ends-at read) (told .result) (c .match .keys2) (told .ensures) in
     ColumnsAnswer.not-legible (k .sheet-accepted) (no .1) (ap outcomeOf (no .0)) refl
 
 -- ---- the columns were read
@@ -44,15 +63,16 @@ read-at c = c .before .before .before .before
 abbrev Known : tie.After-enum-told → Type 0
 Known c =
     let read = read-at c in
-    let a = start-at read .args in
-    Found (a .sheet .now) (a .sizes) (alphabets-at read .alphabets-of .last .1 .1 .0) (a .participants .now) (a .columns .now) (heads-at read)
+    let a = start-at (named-at read) .args in
+    Found (a .sheet .now) (a .sizes) (named-at read .alphabets .result .now) (a .participants .now) (a .columns .now) (heads-at read)
     (ends-at read)
 
 known : (c : tie.After-enum-told) → Known c
 known c =
     let read = read-at c in
-    let k = start-at read .pre in
-    found-by (read .read-columns .result) _ (c .enum-told .given .1) (k .0) (alphabets-at read .alphabets-of .ensures)
+    let named = named-at read in
+    let k = start-at named .pre in
+    found-by (read .read-columns .result) _ (c .enum-told .given .1) (k .0) (alphabets-told named)
     (k .1 (k .0 .sheet-accepted)) (read .read-columns .ensures)
 
 merge-requires : tie.Need-merge-requires
@@ -86,7 +106,8 @@ slice-aggregate-restate-word-2 c =
 restate-word-requires : tie.Need-restate-word-requires
 restate-word-requires c κs =
     let made = merged-at (c .before .before .before .before) in
-    word-given (known (passed-at made)) (made .merge .ensures)
+    let passed = passed-at made in
+    word-given (known passed) (made .merge .ensures) (records-at (named-at (read-at passed)) .records-of .ensures)
 
 returns-3 : tie.Need-returns-3
 returns-3 c =
@@ -103,9 +124,10 @@ merge-columns-spec =
     (λ c. search needs)
     (λ c κs. search needs)
     (λ c. search needs)
-    (λ c. search needs)
-    (λ c. search needs)
     (λ c κs. search needs)
+    (λ c. search needs)
+    (λ c. search needs)
+    read-columns-requires
     (λ c. search needs)
     returns
     (λ c. search needs)

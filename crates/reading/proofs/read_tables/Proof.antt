@@ -1,5 +1,5 @@
 -- `reading::read_tables` meets its contract (R5 to R9, O1, S3): where the trailer passed, the checkers' answers on the parts are the
--- sheet's refusals 5 to 9, and the alphabets of the records are those of the bytes before the steps.
+-- sheet's refusals 5 to 9, and the decoded records are those of the bytes before the steps.
 -- Assumes nothing.
 use mathlib.Core.Path.{_≡_, ap, _∙_}
 use mathlib.Core.Bool.{false}
@@ -12,16 +12,18 @@ use lib.ListN.{length}
 use Rattle.sets.proofs.Bools.{ltb-true, ltb-false}
 use Rattle.systems.specs.Checking.{flat}
 use Rattle.sheet.specs.Bounds.{mostInSteps}
+use Rattle.sheet.specs.Layout.{tables}
 use Rattle.sheet.specs.Sections.{stepsIn}
 use Rattle.sheet.specs.Refusals.{recordsWrong, actionUnused, transitionsWrong, orderWrong, tooManyActions}
-use Rattle.sheet.specs.Verdict.{accepted}
+use Rattle.sheet.specs.Verdict.{Verdict, accepted, refuseIf}
 use Rattle.answers.specs.declared.Sizes.{Sizes}
 use Rattle.answers.specs.declared.Answer.{Answer}
 use Rattle.answers.specs.declared.Answer.the-variants.{Accepted, Refused}
 use Rattle.answers.specs.Outcomes.{refused, outcomeOf, readOutcome}
 use Rattle.answers.specs.SizesRead.{SizesRead}
+use Rattle.reading.specs.transitions.Fitting.{sevenOrEight}
 use Rattle.reading.proofs.Passing.{trailer-read, trailer-then}
-use Rattle.reading.proofs.Sections.{records-long, steps-short, alphabets-part, records-told, actions-told, transitions-told, order-told, count-told}
+use Rattle.reading.proofs.Sections.{records-long, steps-short, decoded-part, decoded-read, records-told, actions-told, transitions-told, two-refused, two-passed, count-told}
 use Rattle.reading.proofs.read_tables.Statement.{statement}
 use Rattle.reading.proofs.read_tables.Tie as tie
 
@@ -35,12 +37,12 @@ read-at c = trailer-read (sheet-at c) (c .args .sizes) (c .pre .0)
 
 records-wrong-requires : tie.Need-records-wrong-requires
 records-wrong-requires c κs =
-    let s = c .before .before .before .before in
+    let s = c .before .before .before in
     let r = read-at s in
     (omega arith, omega arith, records-long r)
 
 abbrev start-at : tie.After-records-wrong → tie.Start
-start-at c = c .before .before .before .before .before
+start-at c = c .before .before .before .before
 
 bad-records : (c : tie.After-records-wrong) → recordsWrong (sheet-at (start-at c)) ≡ c .records-wrong .result
 bad-records c = records-told (read-at (start-at c)) (c .records-wrong .ensures)
@@ -57,115 +59,112 @@ records-passed c = bad-records (c .before) ∙ c .if1 .left
 
 -- ---- 6
 
-alphabets-requires : tie.Need-alphabets-requires
-alphabets-requires c κs =
+decode-requires : tie.Need-decode-requires
+decode-requires c κs =
     let s = start-at (c .before .before) in
     let r = read-at s in
     (omega arith, records-long r, s .pre .1)
 
-abbrev filled-at : tie.After-alphabets → tie.Start
+abbrev filled-at : tie.After-decode → tie.Start
 filled-at c = start-at (c .before .before .before)
 
 action-unused-requires : tie.Need-action-unused-requires
 action-unused-requires c κs =
     let k = c .before .before .before .before in
     let r = read-at (filled-at k) in
-    let size = k .alphabets .ensures 0 .size in
-    (omega arith, omega arith)
+    (omega arith, omega arith, k .decode .ensures 0 .size)
 
-abbrev alphabets-at : tie.After-action-unused → tie.After-alphabets
-alphabets-at c = c .before .before .before .before .before
+abbrev decoded-at : tie.After-action-unused → tie.After-decode
+decoded-at c = c .before .before .before .before .before
 
 abbrev right-at : tie.After-action-unused → tie.Else1
-right-at c = alphabets-at c .before .before
+right-at c = decoded-at c .before .before
 
-unused : (c : tie.After-action-unused) → actionUnused (sheet-at (filled-at (alphabets-at c))) ≡ c .action-unused .result
-unused c = let k = alphabets-at c in actions-told (read-at (filled-at k)) (k .alphabets .ensures _) (c .action-unused .ensures)
+unused : (c : tie.After-action-unused) → actionUnused (sheet-at (filled-at (decoded-at c))) ≡ c .action-unused .result
+unused c =
+    let k = decoded-at c in
+    let r = read-at (filled-at k) in
+    actions-told r (decoded-read r (k .decode .ensures _)) (c .action-unused .ensures)
 
 returns-2 : tie.Need-returns-2
 returns-2 c =
     let k = c .before .before in
     rw (records-passed (right-at k), unused k ∙ c .before .if2 .taken) (stopped (c .refuse2 .ensures))
 
-actions-passed : (c : tie.Else2) → actionUnused (sheet-at (filled-at (alphabets-at (c .before)))) ≡ false
+actions-passed : (c : tie.Else2) → actionUnused (sheet-at (filled-at (decoded-at (c .before)))) ≡ false
 actions-passed c = unused (c .before) ∙ c .if2 .left
 
--- ---- 7
+-- ---- 7 and 8
 
-transitions-wrong-requires : tie.Need-transitions-wrong-requires
-transitions-wrong-requires c κs =
-    let k = alphabets-at (c .before .before) in
-    let s = filled-at k in
-    let r = read-at s in
-    (omega arith, omega arith, records-long r, k .alphabets .ensures 0)
+refusal-requires : tie.Need-refusal-requires
+refusal-requires c κs =
+    let k = decoded-at (c .before .before .before) in
+    let r = read-at (filled-at k) in
+    (omega arith, omega arith, k .decode .ensures 0 .size)
 
-abbrev used-at : tie.After-transitions-wrong → tie.Else2
-used-at c = c .before .before
+abbrev used-at : tie.After-refusal → tie.Else2
+used-at c = c .before .before .before
 
-bad-transitions : (c : tie.After-transitions-wrong) → transitionsWrong (sheet-at (filled-at (alphabets-at (used-at c .before)))) ≡ c .transitions-wrong .result
-bad-transitions c = transitions-told (read-at (filled-at (alphabets-at (used-at c .before)))) (c .transitions-wrong .ensures)
+abbrev fit-at : tie.After-refusal → tie.Start
+fit-at c = filled-at (decoded-at (used-at c .before))
+
+seven-or-eight : (c : tie.After-refusal)
+    → let b = sheet-at (fit-at c) in
+    c .refusal .result ≡ sevenOrEight (transitionsWrong b) (orderWrong b)
+seven-or-eight c =
+    let k = decoded-at (used-at c .before) in
+    let r = read-at (fit-at c) in
+    transitions-told r (c .refusal .ensures (tables (sheet-at (fit-at c))) (decoded-read r (k .decode .ensures _)))
+
+-- what comes behind refusals 5 to 8
+abbrev behind : tie.After-refusal → Verdict
+behind c = refuseIf (tooManyActions (sheet-at (fit-at c))) 9 accepted
 
 returns-3 : tie.Need-returns-3
 returns-3 c =
     let k = c .before .before in
     let u = used-at k in
-    rw (records-passed (right-at (u .before)), actions-passed u, bad-transitions k ∙ c .before .if3 .taken) (stopped (c .refuse3 .ensures))
+    let b = sheet-at (fit-at k) in
+    let e = two-refused (transitionsWrong b) (orderWrong b) (k .refusal .result) (behind k) (seven-or-eight k) (c .before .if3 .taken) in
+    rw (records-passed (right-at (u .before)), actions-passed u, e) (stopped (c .refuse3 .ensures))
 
-transitions-passed : (c : tie.Else3) → transitionsWrong (sheet-at (filled-at (alphabets-at (used-at (c .before) .before)))) ≡ false
-transitions-passed c = bad-transitions (c .before) ∙ c .if3 .left
+transitions-passed : (c : tie.Else3)
+    → let b = sheet-at (fit-at (c .before)) in
+    refuseIf (transitionsWrong b) 7 (refuseIf (orderWrong b) 8 (behind (c .before))) ≡ behind (c .before)
+transitions-passed c =
+    let k = c .before in
+    let b = sheet-at (fit-at k) in
+    two-passed (transitionsWrong b) (orderWrong b) (k .refusal .result) (behind k) (seven-or-eight k) (c .if3 .left)
 
--- ---- 8
+-- ---- 9
 
-abbrev fit-at : tie.After-order-wrong → tie.Else3
-fit-at c = c .before
+abbrev rising-at : tie.After-actions-in → tie.Else3
+rising-at c = c .before .before
 
-abbrev ordered-at : tie.After-order-wrong → tie.Start
-ordered-at c = filled-at (alphabets-at (used-at (fit-at c .before) .before))
-
-disordered : (c : tie.After-order-wrong) → orderWrong (sheet-at (ordered-at c)) ≡ c .order-wrong .result
-disordered c = order-told (read-at (ordered-at c)) (c .order-wrong .ensures)
+too-many : (c : tie.After-actions-in) → tooManyActions (sheet-at (fit-at (rising-at c .before))) ≡ ltb mostInSteps (c .actions-in .result)
+too-many c = count-told (read-at (fit-at (rising-at c .before)))
+    (c .actions-in .ensures ∙ ap (λ (l : List ℕ). length (flat (stepsIn l))) (c .before .step-section .ensures))
 
 returns-4 : tie.Need-returns-4
 returns-4 c =
     let k = c .before .before in
-    let t = fit-at k in
-    let u = used-at (t .before) in
-    rw (records-passed (right-at (u .before)), actions-passed u, transitions-passed t, disordered k ∙ c .before .if4 .taken)
-    (stopped (c .refuse4 .ensures))
-
-order-passed : (c : tie.Else4) → orderWrong (sheet-at (ordered-at (c .before))) ≡ false
-order-passed c = disordered (c .before) ∙ c .if4 .left
-
--- ---- 9
-
-abbrev rising-at : tie.After-actions-in → tie.Else4
-rising-at c = c .before .before
-
-too-many : (c : tie.After-actions-in) → tooManyActions (sheet-at (ordered-at (rising-at c .before)))
-    ≡ ltb mostInSteps (c .actions-in .result)
-too-many c = count-told (read-at (ordered-at (rising-at c .before)))
-    (c .actions-in .ensures ∙ ap (λ (l : List ℕ). length (flat (stepsIn l))) (c .before .step-section .ensures))
+    let o = rising-at k in
+    let u = used-at (o .before) in
+    let e = too-many k ∙ ltb-true mostInSteps (k .actions-in .result) .1 (c .before .if4 .taken) in
+    rw (records-passed (right-at (u .before)), actions-passed u, transitions-passed o, e) (stopped (c .refuse4 .ensures))
 
 returns-5 : tie.Need-returns-5
 returns-5 c =
-    let k = c .before .before in
-    let o = rising-at k in
-    let t = fit-at (o .before) in
-    let u = used-at (t .before) in
-    let e = too-many k ∙ ltb-true mostInSteps (k .actions-in .result) .1 (c .before .if5 .taken) in
-    rw (records-passed (right-at (u .before)), actions-passed u, transitions-passed t, order-passed o, e) (stopped (c .refuse5 .ensures))
-
-returns-6 : tie.Need-returns-6
-returns-6 c =
     let k = c .before in
     let o = rising-at k in
-    let t = fit-at (o .before) in
-    let u = used-at (t .before) in
-    let a = alphabets-at (u .before) in
-    let s = filled-at a in
-    let e = too-many k ∙ ltb-false mostInSteps (k .actions-in .result) .1 (c .if5 .left) in
-    rw (records-passed (right-at (u .before)), actions-passed u, transitions-passed t, order-passed o, e)
-    (s .pre .0 ∙ ap (readOutcome (sheet-at s)) (trailer-then (sheet-at s) (s .args .sizes) (s .pre .0) accepted), λ f. alphabets-part (read-at s) (a .alphabets .ensures _))
+    let u = used-at (o .before) in
+    let d = decoded-at (u .before) in
+    let s = filled-at d in
+    let e = too-many k ∙ ltb-false mostInSteps (k .actions-in .result) .1 (c .if4 .left) in
+    rw (records-passed (right-at (u .before)), actions-passed u, transitions-passed o, e) (
+      s .pre .0 ∙ ap (readOutcome (sheet-at s)) (trailer-then (sheet-at s) (s .args .sizes) (s .pre .0) accepted),
+      λ f. decoded-part (read-at s) (d .decode .ensures _),
+    )
 
 pub read-tables-spec : {M : Type 1} → statement M
 read-tables-spec =
@@ -174,30 +173,26 @@ read-tables-spec =
     (λ c. search needs)
     (λ c. search needs)
     (λ c. let r = read-at (c .before .before) in omega arith)
-    (λ c. let r = read-at (c .before .before .before) in omega arith)
-    (λ c. let r = read-at (c .before .before .before) in omega arith)
-    (λ c. let r = read-at (c .before .before .before) in omega arith)
     records-wrong-requires
     (λ c κs. search needs)
     returns
-    alphabets-requires
+    decode-requires
     (λ c. let r = read-at (filled-at (c .before .before .before .before)) in omega arith)
     action-unused-requires
     (λ c κs. search needs)
     (λ c. search needs)
     returns-2
-    transitions-wrong-requires
+    (λ c. let r = read-at (filled-at (decoded-at (c .before))) in omega arith)
+    (λ c. let r = read-at (filled-at (decoded-at (c .before))) in omega arith)
+    (λ c. let r = read-at (filled-at (decoded-at (c .before))) in omega arith)
+    refusal-requires
     (λ c κs. search needs)
     (λ c. search needs)
     returns-3
-    (λ c κs. search needs)
+    (λ c κs. let r = read-at (fit-at (c .before)) in omega arith)
+    (λ c κs. rw (c .step-section .ensures) (steps-short (read-at (fit-at (c .before .before)))))
     (λ c κs. search needs)
     (λ c. search needs)
     returns-4
-    (λ c κs. let r = read-at (ordered-at (c .before)) in omega arith)
-    (λ c κs. rw (c .step-section .ensures) (steps-short (read-at (ordered-at (c .before .before)))))
-    (λ c κs. search needs)
     (λ c. search needs)
-    returns-5
-    (λ c. search needs)
-    returns-6)
+    returns-5)

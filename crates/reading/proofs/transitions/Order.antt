@@ -1,14 +1,15 @@
--- R8: byte strings of one length rise as the numbers that they are, the first byte heaviest; and what is left to compare at part k.
+-- R8: byte strings of one length rise as the numbers that they are, the first byte heaviest: none falls behind the one before. And what is
+-- left to compare at part k.
 -- Assumes nothing.
 use mathlib.Core.Path.{_≡_, refl, sym, ap, ap₂, _∙_}
-use mathlib.Core.Bool.{Bool, true, _&&_, _||_}
+use mathlib.Core.Bool.{Bool, true, false, not, _&&_, _||_, or-assoc, or-false}
 use mathlib.Core.Logic.{inl, inr}
 use mathlib.Core.List.{List, [], _∷_}
 use Prim.Native.Nat.{ℕ, zero, suc, _+_, _-_, _*_, _<_, _≤_}
 use native.Mathlib.Nat.{add-assoc, eq-or-lt-of-le}
 use native.Mathlib.Omega.{arith}
-use borrow.Author.Tests.{lt-ltb, le-ltb, eq-eqb, ne-eqb, ltb-true, ltb-false}
-use lib.Dec.{ltb, eqb}
+use borrow.Author.Tests.{lt-ltb, le-ltb, lt-leb, le-leb, eq-eqb, ne-eqb, ltb-true, ltb-false}
+use lib.Dec.{leb, ltb, eqb}
 use lib.ListN.{length, take, drop, getD, length-drop}
 use lib.Seq.{drop-cons, length-take-le}
 use Rattle.sets.proofs.Bools.{true-or-false}
@@ -86,39 +87,62 @@ less-from u (d ∷ x) (f ∷ y) h g e =
         ap₂ (λ (t w : Bool). t || (w && lessBytes x y)) (le-ltb d f (omega arith)) (ne-eqb d f (λ s. omega arith))
         ∙ sym (le-ltb (heavyFrom (256 * u + d) x) (heavyFrom (256 * u + f) y) (omega arith))
 
--- ---- the parts of four bytes from part k on, compared with the one before
+-- ---- some part falls: its number is not above that of the part before it, and of the first not above `last`
 
-abbrev pub fourAt : ℕ → List ℕ → List ℕ
-fourAt at b = take 4 (drop at b)
+abbrev pub fallsBehind : ℕ → List (List ℕ) → Bool
+fallsBehind last [] = false
+fallsBehind last (p ∷ ps) = leb (heavyFirst p) last || fallsBehind (heavyFirst p) ps
 
-abbrev pub risingAt : ℕ → ℕ → List ℕ → Bool
-risingAt n k b = risingFrom (fourAt (4 * k - 4) b) (partsFrom 4 n k b)
+not-less : (x y : ℕ) → not (ltb x y) ≡ leb y x
+not-less x y = elim (true-or-false (ltb x y)) [
+  | inl t ↦ let l = ltb-true x y t in ap not t ∙ sym (lt-leb y x (omega arith))
+  | inr t ↦ let l = ltb-false x y t in ap not t ∙ sym (le-leb y x (omega arith))
+]
 
-pub rising-start : (n : ℕ) (b : List ℕ) → risingBytes (parts 4 n b) ≡ risingAt n 1 b
-rising-start zero b = refl
-rising-start (suc n) b = ap (λ (m : ℕ). risingFrom (take 4 b) (parts 4 m (drop 4 b))) fewer
+not-and : (p q : Bool) → not (p && q) ≡ (not p || not q)
+not-and true q = refl
+not-and false q = refl
+
+-- parts of four bytes rise behind x exactly when none falls
+none-falls : (x : List ℕ) (k : ℕ) (b : List ℕ) → AreBytes x → length x ≡ 4 → AreBytes b → 4 * k ≤ length b
+    → not (risingFrom x (parts 4 k b)) ≡ fallsBehind (heavyFirst x) (parts 4 k b)
+none-falls x zero b h e are fits = refl
+none-falls x (suc k) b h e are fits =
+    let y = take 4 b in
+    let long : length y ≡ 4 = length-take-le 4 b (omega arith) in
+    let room : 4 * k ≤ length (drop 4 b) = rw length-drop (omega arith) in
+    not-and (lessBytes x y) (risingFrom y (parts 4 k (drop 4 b)))
+    ∙ ap₂ (λ (p q : Bool). p || q)
+    (ap not (less-from 0 x y h (bytes-take 4 b are) (e ∙ sym long)) ∙ not-less (heavyFirst x) (heavyFirst y))
+    (none-falls y k (drop 4 b) (bytes-take 4 b are) long (bytes-drop 4 b are) room)
+
+-- ---- the parts from part k on, behind the one before, whose number is at hand
+
+-- R8, behind the first one
+pub falls-first : (n : ℕ) (b : List ℕ) → AreBytes b → 4 * n ≤ length b → 0 < n → (read : ℕ) → read ≡ heavyFirst (take 4 b)
+    → not (risingBytes (parts 4 n b)) ≡ fallsBehind read (partsFrom 4 n 1 b)
+falls-first zero b are fits some read e = absurd (omega arith)
+falls-first (suc n) b are fits some read e =
+    none-falls (take 4 b) n (drop 4 b) (bytes-take 4 b are) (length-take-le 4 b (omega arith)) (bytes-drop 4 b are) room
+    ∙ ap₂ (λ (x m : ℕ). fallsBehind x (parts 4 m (drop 4 b))) (sym e) fewer
   where
+    room : 4 * n ≤ length (drop 4 b)
+    room = rw length-drop (omega arith)
+
     fewer : n ≡ suc n - 1
     fewer = omega arith
 
-pub rising-end : (n k : ℕ) (b : List ℕ) → n ≤ k → risingAt n k b ≡ true
-rising-end n k b h = ap (risingFrom (fourAt (4 * k - 4) b)) (parts-none 4 n k b h)
+module _ (n k : ℕ) (b : List ℕ) (last : ℕ) (falls all : Bool) (e : all ≡ (falls || fallsBehind last (partsFrom 4 n k b))) where
+  -- one more, with the number `read`
+  pub falls-next : k < n → (read : ℕ) → read ≡ heavyFirst (take 4 (drop (4 * k) b))
+      → all ≡ ((falls || leb read last) || fallsBehind read (partsFrom 4 n (k + 1) b))
+  falls-next h read f =
+      let rest : ℕ → Bool = λ x. fallsBehind x (partsFrom 4 n (k + 1) b) in
+      e
+      ∙ ap (λ (ps : List (List ℕ)). falls || fallsBehind last ps) (parts-next 4 n k b h)
+      ∙ ap (λ (x : ℕ). falls || (leb x last || rest x)) (sym f)
+      ∙ sym (or-assoc falls (leb read last) (rest read))
 
-module _ (n k : ℕ) (b : List ℕ) (are : AreBytes b) (low : 1 ≤ k) (high : k < n) (fits : 4 * n ≤ length b) where
-  pub rising-next : risingAt n k b ≡ (ltb (heavyFirst (fourAt (4 * k - 4) b)) (heavyFirst (fourAt (4 * k) b)) && risingAt n (k + 1) b)
-  rising-next =
-      ap (risingFrom (fourAt (4 * k - 4) b)) (parts-next 4 n k b high)
-      ∙ ap₂ (λ (t : Bool) (at : ℕ). t && risingFrom (fourAt at b) (partsFrom 4 n (k + 1) b))
-      (less-from 0 (fourAt (4 * k - 4) b) (fourAt (4 * k) b) (part-bytes (4 * k - 4)) (part-bytes (4 * k)) long) back
-    where
-      part-bytes : (at : ℕ) → AreBytes (fourAt at b)
-      part-bytes at = bytes-take 4 (drop at b) (bytes-drop at b are)
-
-      four : (at : ℕ) → at + 4 ≤ length b → length (fourAt at b) ≡ 4
-      four at h = length-take-le 4 (drop at b) (rw length-drop (omega arith))
-
-      long : length (fourAt (4 * k - 4) b) ≡ length (fourAt (4 * k) b)
-      long = four (4 * k - 4) (omega arith) ∙ sym (four (4 * k) (omega arith))
-
-      back : 4 * k ≡ 4 * (k + 1) - 4
-      back = omega arith
+  -- none is left
+  pub falls-end : n ≤ k → all ≡ falls
+  falls-end h = e ∙ ap (λ (ps : List (List ℕ)). falls || fallsBehind last ps) (parts-none 4 n k b h) ∙ or-false falls

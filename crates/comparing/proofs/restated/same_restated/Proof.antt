@@ -9,18 +9,18 @@ use Rattle.comparing.proofs.restated.same_restated.Tie as tie
 
 slice-aggregate-same-steps : tie.Need-slice-aggregate-same-steps
 slice-aggregate-same-steps c =
-    let m = c .before .before .before .before .before .pack-sheet in
+    let m = c .before .before .before .before .before .pack-alone in
     m .ensures .counted ∙ sym (ap length (m .ensures .sets))
 
 slice-aggregate-same-steps-2 : tie.Need-slice-aggregate-same-steps-2
 slice-aggregate-same-steps-2 c =
-    let m = c .before .before .before .pack-sheet2 in
+    let m = c .before .before .before .pack-alone2 in
     m .ensures .counted ∙ sym (ap length (m .ensures .sets))
 
 returns : tie.Need-returns
 returns c =
-    let m = c .before .before .before .before .before .before .before .pack-sheet in
-    let m2 = c .before .before .before .before .pack-sheet2 in
+    let m = c .before .before .before .before .before .before .before .pack-alone in
+    let m2 = c .before .before .before .before .pack-alone2 in
     c .same-steps .ensures ∙ ap₂ sameNumbers (m .ensures .sets) (m2 .ensures .sets)
 
 pub same-restated-spec : {M : Type 1} → statement M

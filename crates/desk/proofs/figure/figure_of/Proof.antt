@@ -24,18 +24,25 @@ unfolding figureOutcome
 given-told b f acc e = told-given oneValue (verdict b) (figure b) (oneValue f) acc (ap oneValue e)
 
 returns : tie.Need-returns
-returns c = refused-told (c .before .before .before .args .sheet .now) (c .before .check .result) (c .match .keys2) (c .before .check .ensures)
+returns c =
+    let d = c .before .before in
+    refused-told (d .before .before .before .args .sheet .now) (d .check-with .result) (c .match .keys2) (d .check-with .ensures .0)
 
-accepted-at : (c : tie.After-known-told) → AcceptedSheet (c .before .before .before .before .before .args .sheet .now) (c .before .answer .given .0 .0)
-accepted-at c = check-accepted _ _ _ (c .before .answer .given .1) (c .before .before .before .check .ensures)
+abbrev checked-at : tie.After-known-told → tie.After-check-with
+checked-at c = c .before .before .before .before
+
+accepted-at : (c : tie.After-known-told) → AcceptedSheet (checked-at c .before .before .before .args .sheet .now) (c .before .answer .given .0 .0)
+accepted-at c = check-accepted _ _ _ (c .before .answer .given .1) (checked-at c .check-with .ensures .0)
 
 figure-at-requires : tie.Need-figure-at-requires
-figure-at-requires c κs = accepted-at c
+figure-at-requires c κs =
+    let k = c .before in
+    (accepted-at k, checked-at k .check-with .ensures .1 (accepted-at k .sheet-accepted))
 
 returns-2 : tie.Need-returns-2
 returns-2 c =
-    given-told (c .before .before .before .before .before .before .args .sheet .now) (c .figure-at .result) (accepted-at (c .before) .sheet-accepted)
-    (c .figure-at .ensures)
+    let k = c .before .before in
+    given-told (checked-at k .before .before .before .args .sheet .now) (c .figure-at .result) (accepted-at k .sheet-accepted) (c .figure-at .ensures)
 
 pub figure-of-spec : {M : Type 1} → statement M
-figure-of-spec = tie.close (tie.spec (λ c κs. search needs) (λ c. search needs) returns figure-at-requires returns-2)
+figure-of-spec = tie.close (tie.spec (λ c. search needs) (λ c κs. search needs) (λ c. search needs) returns (λ c. search needs) figure-at-requires returns-2)

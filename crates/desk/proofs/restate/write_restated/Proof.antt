@@ -23,7 +23,7 @@ pack-requires c κs =
     let a = k .args in
     let b = k .pre .0 in
     let g = k .pre .1 in
-    (given-sixteen b (a .front .now) (a .section .now) (a .sizes) _ g, refl, given-few b (a .front .now) (a .section .now) (a .sizes) _ g)
+    (given-sixteen b (a .front .now) (a .section .now) (a .sizes) _ g, given-few b (a .front .now) (a .section .now) (a .sizes) _ g)
 
 -- what is handed over, as parts of the sheet b
 abbrev Given : tie.After-pack → List ℕ → Type 0
@@ -31,7 +31,7 @@ Given c b = let a = start-at (c .before) .args in SheetGiven b (a .front .now) (
 
 -- what was packed, of each such sheet
 packed-of : (c : tie.After-pack) (b : List ℕ) → Given c b → PackedSteps b (c .pack .last .1 .1 .0) (c .pack .result)
-packed-of c b g = packed-told b _ _ _ _ g _ _ (λ T i p w. c .pack .ensures T i p w refl)
+packed-of c b g = packed-told b _ _ _ _ g _ _ (c .pack .kept .1 .1 .0) (λ T i p w. c .pack .ensures T i p w refl)
 
 -- and of the one that is known
 packed-some : (c : tie.After-pack) → PackedSteps (start-at (c .before) .pre .0) (c .pack .last .1 .1 .0) (c .pack .result)

@@ -29,30 +29,36 @@ given-told b x t acc e f = told-given yesNo (verdict b) (stuck b) (oneValue x) a
 
 returns : tie.Need-returns
 returns c =
-    refused-told (c .before .before .before .args .sheet .now) (c .before .end-sets .result .answer) (c .match .keys2) (c .before .end-sets .ensures .answer-told)
+    let d = c .before .before in
+    refused-told (d .before .before .before .args .sheet .now) (d .end-sets-with .result .answer) (c .match .keys2) (d .end-sets-with .ensures .0 .answer-told)
 
-accepted-at : (c : tie.After-known-told) → AcceptedSheet (c .before .before .before .before .before .args .sheet .now) (c .before .answer .given .0 .0)
-accepted-at c = check-accepted _ _ _ (c .before .answer .given .1) (c .before .before .before .end-sets .ensures .answer-told)
+abbrev ended-at : tie.After-known-told → tie.After-end-sets-with
+ended-at c = c .before .before .before .before
+
+accepted-at : (c : tie.After-known-told) → AcceptedSheet (ended-at c .before .before .before .args .sheet .now) (c .before .answer .given .0 .0)
+accepted-at c = check-accepted _ _ _ (c .before .answer .given .1) (ended-at c .end-sets-with .ensures .0 .answer-told)
 
 stuck-at-requires : tie.Need-stuck-at-requires
 stuck-at-requires c κs =
-    let k = c .before .before in
-    (accepted-at k, k .before .before .before .end-sets .ensures .sets-told)
+    let k = c .before .before .before in
+    (accepted-at k, ended-at k .end-sets-with .ensures .1 (accepted-at k .sheet-accepted), ended-at k .end-sets-with .ensures .0 .sets-told)
 
 returns-2 : tie.Need-returns-2
 returns-2 c =
     let at = c .before in
-    let k = at .before .before .before in
-    given-told (k .before .before .before .before .before .args .sheet .now) (c .bit .result) (at .stuck-at .result) (accepted-at k .sheet-accepted)
+    let k = at .before .before .before .before in
+    given-told (ended-at k .before .before .before .args .sheet .now) (c .bit .result) (at .stuck-at .result) (accepted-at k .sheet-accepted)
     (c .bit .ensures) (at .stuck-at .ensures)
 
 pub is-stuck-spec : {M : Type 1} → statement M
 is-stuck-spec =
     tie.close
     (tie.spec
+    (λ c. search needs)
     (λ c κs. search needs)
     (λ c. search needs)
     returns
+    (λ c. search needs)
     (λ c. search needs)
     stuck-at-requires
     (λ c κs. search needs)

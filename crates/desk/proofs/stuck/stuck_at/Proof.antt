@@ -1,47 +1,42 @@
 -- `stuck::stuck_at` meets its contract (A5): the array holds the end sets, and every action is tried in them.
 -- Assumes nothing.
-use mathlib.Core.Path.{sym, _∙_}
+use mathlib.Core.Path.{_∙_}
 use native.Mathlib.Omega.{arith}
-use lib.Seq.{length-take-le}
 use borrow.Author.Needs.{needs}
-use Rattle.desk.proofs.stuck.EndsHeld.{front-known, alphabets-front, end-held, stuck-told}
+use Rattle.sheet.specs.Layout.{tables}
+use Rattle.answers.proofs.Restated.{accepted-order}
+use Rattle.desk.proofs.stuck.EndsHeld.{transitions-at, transitions-told, transitions-within, stuck-told}
 use Rattle.desk.proofs.stuck.stuck_at.Statement.{statement}
 use Rattle.desk.proofs.stuck.stuck_at.Tie as tie
 
-abbrev start-at : tie.After-alphabets-of → tie.Start
-start-at c = c .before .before .before .before
+-- where the transitions stand
+part-start : tie.Need-part-none-enabled-start
+part-start c = let s = c .before .before .before in transitions-at _ _ (s .pre .0) .1
 
-slice-aggregate-stuck-from : tie.Need-slice-aggregate-stuck-from
-slice-aggregate-stuck-from c =
-    let s = start-at (c .before .before) in
-    let k = s .pre .0 in
-    sym (length-take-le (s .args .sizes .s) (s .args .sheet .now) (omega arith))
+part-end : tie.Need-part-none-enabled-end
+part-end c = let s = c .before .before .before in transitions-at _ _ (s .pre .0) .2
 
-stuck-from-requires : tie.Need-stuck-from-requires
-stuck-from-requires c κs =
-    let read = c .before .before .before in
-    let s = start-at read in
+none-enabled-requires : tie.Need-none-enabled-requires
+none-enabled-requires c κs =
+    let s = c .before .before .before .before in
     let b = s .args .sheet .now in
     let z = s .args .sizes in
-    let l = s .args .sets .now in (
-      front-known b z (s .pre .0) l (s .pre .1),
-      s .pre .0 .sizes-read .m-high,
-      alphabets-front b z (s .pre .0) (read .alphabets-of .last .1 .1 .0) (read .alphabets-of .ensures),
-      end-held b z (s .pre .0) l (s .pre .1),
-    )
+    (transitions-within b z (s .pre .0) (s .args .sets .now) (s .pre .2), s .pre .0 .sizes-read .m-high, s .pre .1 .size)
 
 returns : tie.Need-returns
 returns c =
-    let s = start-at (c .before .before .before .before) in
-    c .stuck-from .ensures ∙ stuck-told (s .args .sheet .now) (s .args .sizes) (s .pre .0) (s .args .sets .now) (s .pre .1)
+    let s = c .before .before .before .before .before in
+    let b = s .args .sheet .now in
+    let z = s .args .sizes in
+    c .none-enabled .ensures (tables b) (accepted-order b (s .pre .0 .sheet-accepted)) (transitions-told b z (s .pre .0)) (s .pre .1)
+    ∙ stuck-told b z (s .pre .0) (s .args .sets .now) (s .pre .2)
 
 pub stuck-at-spec : {M : Type 1} → statement M
 stuck-at-spec =
     tie.close
     (tie.spec
-    (λ c. search needs)
-    (λ c κs. search needs)
-    slice-aggregate-stuck-from
-    (λ c. search needs)
-    stuck-from-requires
+    (λ c. let s = c .before .before .before in let h = transitions-at _ _ (s .pre .0) in search needs)
+    part-start
+    part-end
+    none-enabled-requires
     returns)

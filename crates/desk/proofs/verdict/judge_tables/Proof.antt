@@ -4,20 +4,20 @@
 use mathlib.Core.Path.{_≡_, sym, ap, _∙_}
 use mathlib.Core.List.{List}
 use native.Mathlib.Omega.{arith}
-use Prim.Native.Nat.{ℕ, _+_, _≤_}
-use lib.ListN.{length}
-use lib.Seq.{length-take-le}
+use Prim.Native.Nat.{ℕ, _+_, _-_, _≤_}
+use lib.ListN.{length, take, drop}
 use borrow.Author.Needs.{needs}
 use Rattle.sheet.specs.Bounds.{trailerSize}
+use Rattle.sheet.specs.Layout.{tablesOf}
 use Rattle.sheet.specs.Limits.{InLimits}
 use Rattle.sheet.specs.Verdict.{accepted, tablesVerdict}
 use Rattle.answers.specs.declared.Sizes.{Sizes}
 use Rattle.answers.specs.declared.Answer.the-variants.{Accepted as AcceptedAnswer}
 use Rattle.answers.specs.Outcomes.{outcomeOf, readOutcome}
-use Rattle.desk.specs.Left.{ParticipantsLeft}
 use Rattle.reading.proofs.Passing.{trailer-read}
-use Rattle.machine.proofs.Running.{front-checked, section-short}
-use Rattle.desk.proofs.verdict.Judging.{refused-ends, refused-participants, tables-stopped, tables-verdict, tables-told-accepted, known-sizes, known-told, read-limits, run-answered, run-participants}
+use Rattle.machine.specs.Runs.{SystemOf}
+use Rattle.desk.proofs.Parts.{sections-in}
+use Rattle.desk.proofs.verdict.Judging.{refused-ends, refused-participants, tables-stopped, tables-verdict, tables-told-accepted, known-sizes, known-told, read-limits, system-read, run-answered, run-participants}
 use Rattle.desk.proofs.verdict.judge_tables.Statement.{statement}
 use Rattle.desk.proofs.verdict.judge_tables.Tie as tie
 
@@ -64,50 +64,56 @@ limits-at c = read-limits (sheet-at (read-at c)) (sizes-at c) (start-at (read-at
 steps-at : (c : tie.After-enum-told) → sizes-at c .s + trailerSize ≤ length (sheet-at (read-at c))
 steps-at c = trailer-read (sheet-at (read-at c)) (sizes-at c) (start-at (read-at c) .pre .0) .trailer-last
 
-slice-aggregate-run-from-start : tie.Need-slice-aggregate-run-from-start
-slice-aggregate-run-from-start c =
-    let k = c .before in
-    let h = steps-at k in
-    sym (length-take-le (sizes-at k .s) (sheet-at (read-at k)) (omega arith))
+-- where the transitions stand
+transitions-at : (c : tie.After-enum-told) → (sizes-at c .t ≤ sizes-at c .s) × (sizes-at c .s ≤ length (sheet-at (read-at c)))
+transitions-at c =
+    let b = sheet-at (read-at c) in
+    let z = sizes-at c in
+    let told = tables-told-accepted b z (start-at (read-at c) .pre .0) z (told-at c) in
+    let h = sections-in b z (told .1) (told .2) (told .3) (told .4) (limits-at c) in
+    (h .1, h .2)
 
 step-section-requires : tie.Need-step-section-requires
 step-section-requires c κs = steps-at (c .before)
 
+-- the system that the machine is handed
+system-at : (c : tie.After-enum-told) → SystemOf (tablesOf (take (sizes-at c .s) (sheet-at (read-at c))) (sizes-at c .n) (sizes-at c .m)) (sizes-at c)
+    (read-at c .read-tables .last .1 .1 .0) (take (sizes-at c .s - sizes-at c .t) (drop (sizes-at c .t) (sheet-at (read-at c))))
+system-at c =
+    let r = read-at c in
+    system-read (sheet-at r) (sizes-at c) (start-at r .pre .0) (sizes-at c) (told-at c) _
+    (r .read-tables .ensures .1 (c .enum-told .given .1 ∙ ap AcceptedAnswer (same-at c)))
+
+part-start : tie.Need-part-run-from-start-start
+part-start c = transitions-at c .0
+
+part-end : tie.Need-part-run-from-start-end
+part-end c = transitions-at c .1
+
 run-from-start-requires : tie.Need-run-from-start-requires
 run-from-start-requires c κs =
     let k = c .before .before .before .before .before in
-    let r = read-at k in
-    let s = start-at r in
-    let b = sheet-at r in
-    let z = sizes-at k in
-    let told = tables-told-accepted b z (s .pre .0) z (told-at k) in (
-      front-checked b (z .n) (z .m) (z .s) (told .1) (told .2) (told .4) (limits-at k),
-      rw (c .before .before .before .step-section .ensures) (section-short b (z .s) (told .4) (limits-at k)),
-      s .pre .2,
-      r .read-tables .ensures .1 (k .enum-told .given .1 ∙ ap AcceptedAnswer (same-at k)),
-      s .pre .1,
-    )
+    let s = start-at (read-at k) in
+    let some = limits-at k .components-low in
+    let told = tables-told-accepted (sheet-at (read-at k)) (sizes-at k) (s .pre .0) (sizes-at k) (told-at k) .1 in
+    (record { tables = _; given = system-at k }, omega arith, s .pre .2, s .pre .1)
 
 -- ---- after the run
 
 abbrev known-at : tie.After-run-from-start → tie.After-enum-told
 known-at c = c .before .before .before .before .before .before
 
-participants-left : (c : tie.After-run-from-start)
-    → ParticipantsLeft (sheet-at (read-at (known-at c))) (c .run-from-start .last .1 .1 .1 .1 .0)
-participants-left c =
-    let k = known-at c in
-    run-participants (sheet-at (read-at k)) (sizes-at k) (start-at (read-at k) .pre .0) (sizes-at k) (told-at k) _ (c .run-from-start .ensures .1)
-
 returns-2 : tie.Need-returns-2
 returns-2 c =
     let ran = c .before .before .before .before in
     let k = known-at ran in
     let b = sheet-at (read-at k) in
-    let held = ran .run-from-start .last .1 .1 .1 .1 .1 .0 in (
-      run-answered b (sizes-at k) (start-at (read-at k) .pre .0) (sizes-at k) (told-at k) _ (ran .before .before .before .before .step-section .ensures)
-          (ran .run-from-start .result) held (ran .run-from-start .ensures .0),
-      participants-left ran,
+    let passed = start-at (read-at k) .pre .0 in
+    let held = ran .run-from-start .last .1 .1 .1 .1 .1 .0 in
+    let done = ran .run-from-start .ensures _ (system-at k) in (
+      run-answered b (sizes-at k) passed (sizes-at k) (told-at k) _ (ran .before .before .before .before .step-section .ensures)
+          (ran .run-from-start .result) held (done .0),
+      run-participants b (sizes-at k) passed (sizes-at k) (told-at k) _ (done .1),
     )
 
 pub judge-tables-spec : {M : Type 1} → statement M
@@ -118,7 +124,9 @@ judge-tables-spec =
     (λ c κs. search needs)
     (λ c. search needs)
     returns
-    slice-aggregate-run-from-start
+    (λ c. let h = transitions-at c in search needs)
+    part-start
+    part-end
     step-section-requires
     (λ c. search needs)
     run-from-start-requires

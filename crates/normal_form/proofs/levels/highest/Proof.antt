@@ -1,7 +1,8 @@
 -- `levels::highest` meets its contract, which serves N8. The loop's invariant: the larger of `at` and the entries of the components that
 -- are left is what is to be given back. The measure is the set that is left, which falls. Assumes nothing.
-use mathlib.Core.Path.{_≡_, refl}
+use mathlib.Core.Path.{_≡_}
 use Prim.Native.Nat.{_^_, _<_, max}
+use native.Mathlib.Nat.{zero-max}
 use native.Mathlib.Omega.{arith}
 use borrow.Author.Needs.{needs}
 use Rattle.sets.specs.Bits.{members}
@@ -12,14 +13,14 @@ use Rattle.normal_form.proofs.levels.highest.Statement.{statement}
 use Rattle.normal_form.proofs.levels.highest.Tie as tie
 
 abbrev Inv-loop : tie.InvT-loop
-Inv-loop mine from last at₀ left₀ at left =
-    (left < 2 ^ 16) × (max at (largest last (members left)) ≡ max from (largest last (members mine)))
+Inv-loop mine last at₀ left₀ at left =
+    (left < 2 ^ 16) × (max at (largest last (members left)) ≡ largest last (members mine))
 
 abbrev μ-loop : tie.MeasureT-loop
-μ-loop mine from last at₀ left₀ at left = left
+μ-loop mine last at₀ left₀ at left = left
 
 loop-holds : tie.Need-loop-holds Inv-loop μ-loop
-loop-holds c = (c .before .pre .0, refl)
+loop-holds c = (c .before .pre .0, zero-max _)
 
 shared-slice-read-larger : tie.Need-shared-slice-read-larger Inv-loop μ-loop
 shared-slice-read-larger c =

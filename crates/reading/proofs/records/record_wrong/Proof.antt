@@ -8,11 +8,11 @@ use native.Mathlib.Omega.{arith}
 use lib.Dec.{leb, eqb}
 use lib.ListN.{getD}
 use Rattle.sheet.specs.Numbers.{field}
-use Rattle.sheet.specs.Layout.{statesOf, fillerOf, initialOf, alphabetOf}
+use Rattle.sheet.specs.Layout.{fillerOf, initialOf, alphabetOf}
 use Rattle.sheet.specs.Refusals.{outside, recordWrong}
-use Rattle.sheet.proofs.Numbers.{field-one}
 use Rattle.sheet.proofs.Limits.{inside}
 use borrow.Author.Needs.{needs}
+use Rattle.reading.proofs.records.Decoding.{states-field}
 use Rattle.reading.proofs.records.record_wrong.Statement.{statement}
 use Rattle.reading.proofs.records.record_wrong.Tie as tie
 
@@ -22,19 +22,15 @@ missing k x = eqb x 0 || leb (2 ^ k) x
 
 -- the tests, with the state count s as it was read
 module _ (b : List ℕ) (m j s : ℕ) (e : s ≡ getD b (16 * j) 0) where
-  counted : s ≡ statesOf b j
-  unfolding statesOf
-  counted = e ∙ sym (field-one (16 * j) b)
-
   states-wrong : outside 1 32 s ≡ true → true ≡ recordWrong b m j
   unfolding recordWrong
-  states-wrong h = rw (← counted, h)
+  states-wrong h = rw (← states-field b j s e, h)
 
   sets-tested : (filler initial alphabet : Bool) → outside 1 32 s ≡ false → filler ≡ not (eqb (field (16 * j + 1) 3 b) 0)
       → initial ≡ missing s (field (16 * j + 4) 4 b) → alphabet ≡ missing m (field (16 * j + 8) 8 b)
       → ((filler || initial) || alphabet) ≡ recordWrong b m j
   unfolding recordWrong fillerOf initialOf alphabetOf
-  sets-tested x y z h ex ey ez = rw (ex, ey, ez, ← counted, h) (simp or-assoc)
+  sets-tested x y z h ex ey ez = rw (ex, ey, ez, ← states-field b j s e, h) (simp or-assoc)
 
 -- a state count that passed is at most 32
 states-fit : (s : ℕ) (r : Bool) → r ≡ outside 1 32 s → r ≡ false → s ≤ 64

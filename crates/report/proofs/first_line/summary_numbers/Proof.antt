@@ -23,8 +23,8 @@ first-line b s steps count fig st at p q u v =
 
 returns : tie.Need-returns
 returns c =
-    let a = c .before .before .before .before .before .before .args in
-    let p = c .before .before .before .before .before .before .pre in
+    let a = c .before .before .before .before .before .before .before .args in
+    let p = c .before .before .before .before .before .before .before .pre in
     first-line (a .sheet .now) (a .sizes .s) _ _ _ _ (p .0 .sizes-read .s-read) refl (p .1) (c .before .before .figure-with .ensures)
     (c .bit .ensures ∙ ap bit (c .before .stuck-at .ensures))
 
