@@ -2,7 +2,9 @@
 -- Assumes nothing.
 use mathlib.Core.Path.{_≡_}
 use mathlib.Core.List.{List}
-use Prim.Native.Nat.{ℕ}
+use Prim.Native.Nat.{ℕ, _*_, _≤_}
+use lib.ListN.{length}
+use Rattle.sheet.specs.Bounds.{stepSize, mostSteps}
 use Rattle.sheet.specs.Layout.{front, tables, steps}
 use Rattle.sheet.specs.Sections.{stepsIn}
 use Rattle.sheet.specs.Verdict.{Accepted}
@@ -15,12 +17,13 @@ pub record AcceptedSheet (b : List ℕ) (z : Sizes) : Type 0 where
   pub sheet-accepted : Accepted b
   pub sizes-read : SizesRead b z
 
--- N1: an accepted sheet b in parts: the bytes before its steps (S2), a section that has its steps (S5), its sizes, and an array with the
--- components of each of its actions (N3)
+-- N1: an accepted sheet b in parts: the bytes before its steps (S2), a section that has its steps (S5) and is not longer than a sheet's (L5),
+-- its sizes, and an array with the components of each of its actions (N3)
 pub record SheetGiven (b before section : List ℕ) (z : Sizes) (o : List ℕ) : Type 0 where
   pub sheet : AcceptedSheet b z
   pub front-told : before ≡ front b
   pub steps-told : stepsIn section ≡ steps b
+  pub section-short : length section ≤ stepSize * mostSteps
   pub participants-told : Participants (tables b) o
 
 -- N1: the same of some sheet

@@ -5,8 +5,9 @@ use mathlib.Core.Bool.{cond}
 use mathlib.Core.List.{List}
 use Prim.Native.Nat.{ℕ, _<_, _≤_}
 use lib.Dec.{ltb}
-use lib.ListN.{length, take, getD}
-use Rattle.sheet.specs.Bounds.{mostComponents, mostSteps}
+use lib.ListN.{length, take, getD, replicate}
+use Rattle.systems.specs.Checking.{flat}
+use Rattle.sheet.specs.Bounds.{mostComponents}
 use Rattle.sheet.specs.Layout.{componentCount, tables}
 use Rattle.sheet.specs.Verdict.{Verdict, accepted, verdict, Accepted}
 use Rattle.dependence.specs.participants.Participants.{Participants}
@@ -37,9 +38,13 @@ pub record EndsLeft (b : List ℕ) (r : Answer) (held : List ℕ) : Type 0 where
 abbrev pub ParticipantsLeft : List ℕ → List ℕ → Type 0
 ParticipantsLeft b l = Accepted b → Participants (tables b) l
 
+-- N8: what the restated steps may be packed into: an array of zeros that has a place for each action of the steps xs
+pub record PlacesFor (xs packed : List ℕ) : Type 0 where
+  pub zeros : packed ≡ replicate (length packed) 0
+  pub enough : length (flat xs) ≤ length packed
+
 -- N8: the array's first `count` entries are the restated steps of the sheet b
 pub record PackedSteps (b packed : List ℕ) (count : ℕ) : Type 0 where
-  pub size : length packed ≡ mostSteps
   pub counted : count ≡ length (restatedSteps b)
-  pub few : count ≤ mostSteps
+  pub few : count ≤ length packed
   pub sets : take count packed ≡ restatedSteps b

@@ -58,9 +58,17 @@ pub fn judge_tables(
     )
 }
 
+// The same for the check and the end sets, which answer at once what comes of it. The sheet is handed on as a part, whose bounds are in
+// registers; the bounds of the sheet itself would be copied in memory.
+fn judge_passed(sheet: &[u8], sizes: Sizes, participants: &mut [u64], held: &mut [u64]) -> Answer
+    requires { ⌜ TrailerPassed (now sheet) sizes × (now participants ≡ replicate 64 0) × (length (now held) ≡ 16) ⌝ }
+    ensures { λ r. ⌜ EndsLeft (now (sheet .entry)) r (now (held .exit)) × ParticipantsLeft (now (sheet .entry)) (now (participants .exit)) ⌝ }
+{
+    refusal_or_sizes(judge_tables(&sheet[0..], sizes, participants, held), sizes)
+}
+
 // The verdict on a sheet. Of an accepted sheet the first sets held are the end sets of its components, and `participants`, which comes with
-// zeros, has the components of each action. The sheet is handed on as a part, whose bounds are in registers; the bounds of the sheet itself
-// would be copied in memory.
+// zeros, has the components of each action.
 fn judge(sheet: &[u8], participants: &mut [u64], held: &mut [u64]) -> Answer
     requires { ⌜ (now participants ≡ replicate 64 0) × (length (now held) ≡ 16) ⌝ }
     ensures { λ r. ⌜ EndsLeft (now (sheet .entry)) r (now (held .exit)) × ParticipantsLeft (now (sheet .entry)) (now (participants .exit)) ⌝ }
@@ -69,7 +77,7 @@ fn judge(sheet: &[u8], participants: &mut [u64], held: &mut [u64]) -> Answer
     let Answer::Accepted(sizes) = read else {
         return read;
     };
-    refusal_or_sizes(judge_tables(&sheet[0..], sizes, participants, held), sizes)
+    judge_passed(sheet, sizes, participants, held)
 }
 
 // The verdict on a sheet: accepted with its sizes, or refused with number and step index. Of an accepted sheet `participants`, which comes
@@ -82,12 +90,17 @@ pub fn check_with(sheet: &[u8], participants: &mut [u64]) -> Answer
     judge(sheet, participants, &mut held)
 }
 
-// The verdict on a sheet.
+// The verdict on a sheet. The trailer is read first: a sheet that it refuses does not pay for the arrays.
 pub fn check(sheet: &[u8]) -> Answer
     ensures { λ r. ⌜ CheckAnswer (now (sheet .entry)) r ⌝ }
 {
+    let told = reading::read_trailer(sheet);
+    let Answer::Accepted(sizes) = told else {
+        return told;
+    };
     let mut participants = [0u64; 64];
-    check_with(sheet, &mut participants)
+    let mut held = [0u64; 16];
+    judge_passed(sheet, sizes, &mut participants, &mut held)
 }
 
 // The set with index j where j is below n, else the empty set.

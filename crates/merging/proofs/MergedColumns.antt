@@ -7,7 +7,7 @@ use mathlib.Core.Bool.{Bool, true, false}
 use mathlib.Core.List.{List, [], map, append-nil, List·Memᴰ}
 use Prim.Native.Nat.{ℕ, _*_, _/_, _^_, _<_}
 use native.Mathlib.Omega.{arith}
-use lib.ListN.{length, take, drop, getD, length-map}
+use lib.ListN.{length, take, drop, getD, length-map, length-take}
 use lib.Seq.{take-append-seam}
 use Rattle.sets.specs.Lists.{over}
 use Rattle.sets.specs.Bits.{member}
@@ -118,6 +118,7 @@ module _ {b : List ℕ} {z : Sizes} {alphabets o d heads ends : List ℕ} (f : F
           word-over = merged .over;
           word-few = let e = M .counted in let f = M .few in omega arith;
           section-told = steps-told;
+          section-short = let f = M .few in let l = length-take (8 * count) section′ in omega arith;
         }
 
     module _ {some : Bool} (left : LeftOver (z .n) heads′ ends some) (none : some ≡ false) where

@@ -124,5 +124,6 @@ module _ {b : List ℕ} {z : Sizes} {records section : List ℕ} (g : WordGiven 
             same-sizes b (withSteps b (stepsIn section)) z (g .sheet) (with-steps-same b limits (stepsIn section) small) (with-accepted fine);
         front-told = ap (λ (k : ℕ). take k b) (g .sheet .sizes-read .s-read) ∙ sym (reads .front-before);
         steps-told = sym (reads .same-steps);
+        section-short = g .section-short;
         participants-told = rw (with-steps-tables b limits (stepsIn section) small) p;
       }

@@ -3,12 +3,12 @@
 use mathlib.Core.Path.{_≡_}
 use mathlib.Core.List.{List, map}
 use mathlib.Core.Option.{none}
-use Prim.Native.Nat.{ℕ, _≤_}
+use Prim.Native.Nat.{ℕ, _*_, _≤_}
 use lib.ListN.{length}
 use Rattle.systems.specs.Tables.{WordOver}
 use Rattle.systems.specs.Running.{start}
 use Rattle.systems.specs.Checking.{firstFault}
-use Rattle.sheet.specs.Bounds.{mostInSteps}
+use Rattle.sheet.specs.Bounds.{stepSize, mostSteps, mostInSteps}
 use Rattle.sheet.specs.Layout.{tables}
 use Rattle.sheet.specs.Sections.{stepsIn, Decoded}
 use Rattle.answers.specs.declared.Sizes.{Sizes}
@@ -27,6 +27,7 @@ pub record WordGiven (b : List ℕ) (z : Sizes) (records section : List ℕ) : T
   pub word-over : WordOver (tables b) word
   pub word-few : length word ≤ mostInSteps
   pub section-told : stepsIn section ≡ map single word
+  pub section-short : length section ≤ stepSize * mostSteps
 
 -- R19, V3: 19 where the section has a fault, and the output as it came; else what restating the sheet with the section answers and writes
 pub data WordAnswer (b section out : List ℕ) (r : Answer) (after : List ℕ) : Type 0 where

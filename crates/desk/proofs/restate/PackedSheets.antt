@@ -1,8 +1,8 @@
 -- N8: the steps of an accepted sheet with the participants of each action: they may be packed, and packed they are the restated steps.
 -- Assumes nothing.
-use mathlib.Core.Path.{_≡_, sym, ap, ap₂, _∙_}
+use mathlib.Core.Path.{_≡_, sym, ap, ap₂, subst, _∙_}
 use mathlib.Core.List.{List, map}
-use Prim.Native.Nat.{ℕ, _-_, _<_, _≤_}
+use Prim.Native.Nat.{ℕ, _-_, _*_, _<_, _≤_}
 use native.Mathlib.Omega.{arith}
 use lib.ListN.{length, take, replicate, length-map, length-append, length-replicate}
 use lib.Seq.{take-append-seam}
@@ -12,18 +12,21 @@ use Rattle.systems.specs.Tables.{Tables, InOrder, WordOver}
 use Rattle.systems.specs.Checking.{flat}
 use Rattle.systems.specs.Independence.{dependent}
 use Rattle.sheet.specs.Bounds.{mostSteps, mostInSteps, mostComponents}
-use Rattle.sheet.specs.Layout.{front, tablesOf, tables}
+use Rattle.sheet.specs.Layout.{front, tablesOf, tables, stepCount, steps}
 use Rattle.sheet.specs.Sections.{stepsIn}
+use Rattle.sheet.specs.Verdict.{Accepted}
+use Rattle.sheet.proofs.RoundTrip.{steps-length}
 use Rattle.dependence.specs.participants.Participants.{OfSixteen, Participants}
 use Rattle.dependence.proofs.participants.Entering.{participants-sixteen}
 use Rattle.reading.specs.Reading.{upToTrailer}
 use Rattle.normal_form.specs.HoldsFoata.{HoldsFoata}
 use Rattle.answers.specs.declared.Sizes.{Sizes}
 use Rattle.answers.specs.Restated.{restatedSteps}
-use Rattle.answers.proofs.Restated.{restated-normal, accepted-limits, accepted-order, front-short}
+use Rattle.answers.proofs.Normal.{normal-no-longer}
+use Rattle.answers.proofs.Restated.{restated-normal, accepted-limits, accepted-order, accepted-fine, front-short}
 use Rattle.desk.specs.AcceptedSheet.{AcceptedSheet, SheetGiven}
-use Rattle.desk.specs.Left.{PackedSteps}
-use Rattle.desk.proofs.Accepted.{steps-below, section-told}
+use Rattle.desk.specs.Left.{PlacesFor, PackedSteps}
+use Rattle.desk.proofs.Accepted.{steps-below, section-told, section-room}
 
 -- N1: a sheet whole, as its parts: the bytes before its steps, and its step section
 pub whole-given : (b : List ℕ) (z : Sizes) → AcceptedSheet b z → (section : List ℕ) → section ≡ upToTrailer (z .s) b → (o : List ℕ)
@@ -34,8 +37,21 @@ whole-given b z r section e o p =
       sheet = r;
       front-told = ap (λ (s : ℕ). take s b) (r .sizes-read .s-read);
       steps-told = section-told b z r section e;
+      section-short = section-room b z r section e;
       participants-told = p;
     }
+
+-- L5, N8: an accepted sheet has few restated steps
+pub restated-few : (b : List ℕ) → Accepted b → length (restatedSteps b) ≤ mostSteps
+unfolding stepCount
+restated-few b acc =
+    let n = normal-no-longer (tables b) (accepted-order b acc) (steps b) (accepted-fine b acc) in
+    let e = ap length (restated-normal b) in
+    let l = steps-length b in
+    let k = accepted-limits b acc .trailer-last in
+    let few = k .1 in
+    let whole = k .2 in
+    omega arith
 
 module _ (b before section : List ℕ) (z : Sizes) (o : List ℕ) (g : SheetGiven b before section z o) where
   few : tables b .components ≤ mostComponents
@@ -49,6 +65,14 @@ module _ (b before section : List ℕ) (z : Sizes) (o : List ℕ) (g : SheetGive
   -- L6: and of the section
   pub given-few : length (flat (stepsIn section)) ≤ mostInSteps
   given-few = rw (g .steps-told) (accepted-limits b (g .sheet .sheet-accepted) .actions-total)
+
+  -- N8: an array that has places for the actions of the sheet has them for those of the section
+  pub given-places : {packed : List ℕ} → PlacesFor (steps b) packed → length (flat (stepsIn section)) ≤ length packed
+  given-places {packed} p = subst (λ (xs : List ℕ). length (flat xs) ≤ length packed) (sym (g .steps-told)) (p .enough)
+
+  -- L5: what was packed are few steps
+  pub packed-few : (packed : List ℕ) (count : ℕ) → PackedSteps b packed count → count ≤ mostSteps
+  packed-few packed count p = let e = p .counted in let f = restated-few b (g .sheet .sheet-accepted) in omega arith
 
   -- L7: what writing asks of the bytes before the steps
   pub given-front : length before < 65536
@@ -71,7 +95,7 @@ module _ (b before section : List ℕ) (z : Sizes) (o : List ℕ) (g : SheetGive
   pub counted-told : (count : ℕ) → count ≡ length placed → count ≡ length (restatedSteps b)
   counted-told count e = e ∙ sym (length-map placed setOf) ∙ ap length placed-told
 
-  module _ (packed : List ℕ) (count : ℕ) (whole : length packed ≡ mostSteps)
+  module _ (packed : List ℕ) (count : ℕ)
       (h : (T : Tables) → InOrder T → Participants T o → WordOver T (flat (stepsIn section))
       → HoldsFoata (dependent T) (flat (stepsIn section)) packed count)
     where
@@ -82,9 +106,8 @@ module _ (b before section : List ℕ) (z : Sizes) (o : List ℕ) (g : SheetGive
       pub packed-told : PackedSteps b packed count
       packed-told =
           record {
-            size = whole;
             counted = counted-told count (holds .counted);
-            few = let f = holds .few in omega arith;
+            few = holds .few;
             sets = ap₂ take (holds .counted ∙ sym (length-map placed setOf)) (holds .packed-sets)
                 ∙ take-append-seam (map setOf placed) (replicate (length packed - count) 0)
                 ∙ placed-told;

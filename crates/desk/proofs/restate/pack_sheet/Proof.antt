@@ -1,13 +1,9 @@
 -- `restate::pack_sheet` meets its contract (N8): by the components of each action the steps of the sheet are packed into its restated steps.
 -- Assumes nothing.
-use mathlib.Core.Path.{_≡_, sym, ap, _∙_}
-use Prim.Native.Nat.{ℕ}
-use native.Mathlib.Omega.{arith}
-use lib.ListN.{length, take, replicate, length-replicate}
+use lib.ListN.{take}
 use borrow.Author.Needs.{needs}
-use Rattle.sheet.specs.Bounds.{mostSteps}
 use Rattle.desk.specs.AcceptedSheet.{SheetGiven}
-use Rattle.desk.proofs.restate.PackedSheets.{whole-given, given-sixteen, given-few, packed-told}
+use Rattle.desk.proofs.restate.PackedSheets.{whole-given, given-sixteen, given-places, packed-told}
 use Rattle.desk.proofs.restate.pack_sheet.Statement.{statement}
 use Rattle.desk.proofs.restate.pack_sheet.Tie as tie
 
@@ -21,19 +17,13 @@ given c =
     let s = start-at c in
     whole-given (s .args .sheet .now) (s .args .sizes) (s .pre .0) _ (c .step-section .ensures) _ (s .pre .1)
 
--- the array that is lent
-whole : (s : tie.Start) → length (s .args .packed .now) ≡ mostSteps
-whole s = ap length (s .pre .2) ∙ length-replicate {A = ℕ} mostSteps 0
-
 pack-requires : tie.Need-pack-requires
 pack-requires c κs =
     let d = c .before in
     let s = start-at d in
     let b = s .args .sheet .now in
     let g = given d in
-    let few = given-few b _ _ (s .args .sizes) _ g in
-    let size = whole s in
-    (given-sixteen b _ _ (s .args .sizes) _ g, omega arith)
+    (given-sixteen b _ _ (s .args .sizes) _ g, given-places b _ _ (s .args .sizes) _ g (s .pre .2))
 
 returns : tie.Need-returns
 returns c =
@@ -41,8 +31,7 @@ returns c =
     let d = made .before .before in
     let s = start-at d in
     packed-told (s .args .sheet .now) _ _ (s .args .sizes) _ (given d) (made .pack .last .1 .1 .0) (made .pack .result)
-    (made .pack .kept .1 .1 .0 ∙ whole s)
-    (λ T i p w. made .pack .ensures T i p w (s .pre .2 ∙ ap (λ (n : ℕ). replicate n 0) (sym (whole s))))
+    (λ T i p w. made .pack .ensures T i p w (s .pre .2 .zeros))
 
 pub pack-sheet-spec : {M : Type 1} → statement M
 pack-sheet-spec = tie.close (tie.spec (λ c κs. search needs) pack-requires (λ c. search needs) returns)

@@ -1,98 +1,32 @@
--- `restate::write_restated` meets its contract (N8, N9, R13, O5), for every sheet that has what was handed over: the packed steps make the
--- restated sheet, written where it fits; else the output stays as it came.
+-- `restate::write_restated` meets its contract (N8, N9, R13, O5): 64 places are enough where at most 64 actions were counted.
 -- Assumes nothing.
-use mathlib.Core.Path.{refl}
-use mathlib.Core.List.{List}
-use Prim.Native.Nat.{ℕ, _<_}
 use native.Mathlib.Omega.{arith}
-use lib.ListN.{length}
 use borrow.Author.Needs.{needs}
-use Rattle.desk.specs.AcceptedSheet.{SheetGiven}
-use Rattle.desk.specs.Left.{PackedSteps}
-use Rattle.desk.proofs.restate.PackedSheets.{given-sixteen, given-few, given-front, packed-told}
-use Rattle.desk.proofs.restate.RestateAnswers.{restate-short, restate-written}
 use Rattle.desk.proofs.restate.write_restated.Statement.{statement}
 use Rattle.desk.proofs.restate.write_restated.Tie as tie
 
-abbrev start-at : tie.After-packed → tie.Start
-start-at c = c .before .before .before .before .before
+abbrev start-at : tie.After-slice-known → tie.Start
+start-at c = c .before .before .before .before
 
-pack-requires : tie.Need-pack-requires
-pack-requires c κs =
-    let k = start-at c in
-    let a = k .args in
-    let b = k .pre .0 in
-    let g = k .pre .1 in
-    (given-sixteen b (a .front .now) (a .section .now) (a .sizes) _ g, given-few b (a .front .now) (a .section .now) (a .sizes) _ g)
+actions-in-requires : tie.Need-actions-in-requires
+actions-in-requires c κs = start-at c .pre .1 .section-short
 
--- what is handed over, as parts of the sheet b
-abbrev Given : tie.After-pack → List ℕ → Type 0
-Given c b = let a = start-at (c .before) .args in SheetGiven b (a .front .now) (a .section .now) (a .sizes) (a .participants .now)
-
--- what was packed, of each such sheet
-packed-of : (c : tie.After-pack) (b : List ℕ) → Given c b → PackedSteps b (c .pack .last .1 .1 .0) (c .pack .result)
-packed-of c b g = packed-told b _ _ _ _ g _ _ (c .pack .kept .1 .1 .0) (λ T i p w. c .pack .ensures T i p w refl)
-
--- and of the one that is known
-packed-some : (c : tie.After-pack) → PackedSteps (start-at (c .before) .pre .0) (c .pack .last .1 .1 .0) (c .pack .result)
-packed-some c = packed-of c _ (start-at (c .before) .pre .1)
-
-front-some : (c : tie.After-pack) → length (start-at (c .before) .args .front .now) < 65536
-front-some c = let k = start-at (c .before) in given-front (k .pre .0) _ _ _ _ (k .pre .1)
-
-mul-size : tie.Need-mul-size
-mul-size c = let f = packed-some (c .before) .few in search needs
-
-add-size : tie.Need-add-size
-add-size c =
-    let f = packed-some (c .before) .few in
-    let l = front-some (c .before) in
-    search needs
-
-add-size-2 : tie.Need-add-size-2
-add-size-2 c =
-    let f = packed-some (c .before) .few in
-    let l = front-some (c .before) in
-    search needs
-
-returns : tie.Need-returns
-returns c b g =
-    let made = c .before .before .before in
-    let a = start-at (made .before) .args in
-    restate-short b _ _ (a .sizes) _ g _ _ (packed-of made b g) (a .out .now) (c .before .if1 .taken) (c .refuse .result) (c .refuse .ensures)
-
-write-sheet-requires : tie.Need-write-sheet-requires
-write-sheet-requires c κs =
-    let left = c .before .before .before .before in
-    let made = left .before .before in
-    let p = packed-some made in
-    let room = left .if1 .left in
-    let l = front-some made in
-    (omega arith, omega (arith, p .size, p .few), omega (arith, p .few), omega arith)
-
-returns-2 : tie.Need-returns-2
-returns-2 c b g =
-    let w = c .before .before in
-    let left = w .before .before .before .before .before in
-    let made = left .before .before in
-    let a = start-at (made .before) .args in
-    restate-written b _ _ (a .sizes) _ g _ _ (packed-of made b g) (a .out .now) (w .write-sheet .last .1 .1 .1 .1 .1 .0) (left .if1 .left)
-    (w .write-sheet .ensures)
+write-few-requires : tie.Need-write-few-requires
+write-few-requires c κs =
+    let few = c .before in
+    let counted = few .before in
+    let e = counted .actions-in .ensures in
+    let h = few .if1 .taken in
+    (start-at (counted .before) .pre, omega arith)
 
 pub write-restated-spec : {M : Type 1} → statement M
 write-restated-spec =
     tie.close
     (tie.spec
+    actions-in-requires
+    write-few-requires
     (λ c. search needs)
-    pack-requires
-    mul-size
-    add-size
-    add-size-2
+    (λ c. search needs)
     (λ c κs. search needs)
-    returns
     (λ c. search needs)
-    (λ c. search needs)
-    (λ c. search needs)
-    write-sheet-requires
-    (λ c. search needs)
-    returns-2)
+    (λ c. search needs))
