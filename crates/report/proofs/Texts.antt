@@ -27,7 +27,7 @@ use Rattle.answers.specs.Figure.{FigureOf, figure}
 use Rattle.answers.specs.Stuck.{stuck}
 use Rattle.answers.specs.Report.{acceptedWord, refusedWord, endWord, line, stepTexts, endTexts, summaryLine, stepLines, endLines, report, reporting, reportOutput, reportRoom}
 use Rattle.answers.proofs.Laws.{answer-laws}
-use Rattle.answers.proofs.Normal.{normal-actions, normal-no-longer}
+use Rattle.answers.proofs.Normal.{normal-actions}
 use Rattle.answers.proofs.Restated.{restated-normal, accepted-limits, accepted-order, accepted-fine}
 use Rattle.answers.proofs.Reports.{report-refused, report-accepted}
 use Rattle.answers.proofs.Passing.{NotAccepted, stopped-by}
@@ -35,6 +35,7 @@ use Rattle.answers.proofs.LentOutput.{fitting-short, fitting-long}
 use Rattle.desk.specs.AcceptedSheet.{AcceptedSheet}
 use Rattle.desk.specs.Calls.{endArrayBy}
 use Rattle.desk.specs.Left.{PackedSteps}
+use Rattle.desk.proofs.restate.PackedSheets.{restated-few}
 use Rattle.desk.proofs.stuck.EndsHeld.{set-at}
 use Rattle.report.specs.text.Texts.{TextAt}
 use Rattle.report.specs.Calls.{refusalLine, ReportAnswer}
@@ -77,17 +78,6 @@ bit-small true = omega arith
 bit-small false = omega arith
 
 module _ (b : List ℕ) (acc : Accepted b) where
-  few-steps : length (restatedSteps b) ≤ mostSteps
-  unfolding stepCount
-  few-steps =
-      let n = normal-no-longer (tables b) (accepted-order b acc) (steps b) (accepted-fine b acc) in
-      let e = ap length (restated-normal b) in
-      let l = steps-length b in
-      let k = accepted-limits b acc .trailer-last in
-      let few = k .1 in
-      let whole = k .2 in
-      omega arith
-
   few-actions : length (flat (restatedSteps b)) ≤ mostInSteps
   few-actions =
       let e = ap (λ (xs : List ℕ). length (flat xs)) (restated-normal b) in
@@ -100,7 +90,7 @@ module _ (b : List ℕ) (acc : Accepted b) where
   ends-short = ends-most (endSet b) (componentCount b) (accepted-limits b acc .components-high)
 
   small-figure : figure b ≤ 10752
-  small-figure = go (length (restatedSteps b)) few-steps (answer-laws .figure-exactly b (figure b) .0 refl)
+  small-figure = go (length (restatedSteps b)) (restated-few b acc) (answer-laws .figure-exactly b (figure b) .0 refl)
     where
       go : (k : ℕ) → k ≤ mostSteps → FigureOf (length (flat (steps b))) k (figure b) → figure b ≤ 10752
       go zero h f = omega arith
@@ -114,7 +104,7 @@ module _ (b : List ℕ) (acc : Accepted b) where
   unfolding summaryLine stepCount
   summary-short =
       let k = accepted-limits b acc .length-high in
-      let c = few-steps in
+      let c = restated-few b acc in
       let f = small-figure in
       let h =
       line-most acceptedWord (stepCount b ∷ length (restatedSteps b) ∷ figure b ∷ bit (stuck b) ∷ [])
@@ -130,7 +120,7 @@ module _ (b : List ℕ) (acc : Accepted b) where
       let first = summary-short in
       let second = steps-most (restatedSteps b) in
       let third = ends-short in
-      let f = few-steps in
+      let f = restated-few b acc in
       let g = few-actions in
       omega arith
 
