@@ -26,13 +26,13 @@ start-at c = c .before .before .before .before .before
 -- the system that the machine is handed
 system-at : (k : tie.Start) → let a = k .args in SystemOf (tables (a .sheet .now)) (a .sizes) (a .records .now)
     (take (a .sizes .s - a .sizes .t) (drop (a .sizes .t) (a .sheet .now)))
-system-at k = sheet-system (k .pre .sheet) (k .pre .decoded)
+system-at k = sheet-system (k .pre .0 .sheet) (k .pre .0 .decoded)
 
 run-from-start-requires : tie.Need-run-from-start-requires
 run-from-start-requires c κs =
     let k = start-at (c .before .before) in
-    let r = k .pre .sheet .sizes-read in
-    (record { tables = _; given = system-at k }, omega arith, refl, refl)
+    let r = k .pre .0 .sheet .sizes-read in
+    (record { tables = _; given = system-at k }, omega arith, refl)
 
 -- ---- after the run
 
@@ -42,8 +42,8 @@ ran-start c = start-at (c .before .before .before)
 -- the run is that over the tables of the sheet
 run-at : (c : tie.After-run-from-start)
     → let a = ran-start c .args in RunFromStart (tables (a .sheet .now)) (a .sizes) (stepsIn (a .section .now)) (c .run-from-start .result)
-    (c .run-from-start .last .1 .1 .1 .1 .1 .0)
-run-at c = c .run-from-start .ensures _ (system-at (ran-start c)) .0
+    (c .run-from-start .last .1 .1 .1 .1 .0)
+run-at c = c .run-from-start .ensures _ (system-at (ran-start c))
 
 returns : tie.Need-returns
 returns c =
@@ -56,7 +56,7 @@ abbrev told-ran : tie.After-enum-told → tie.After-run-from-start
 told-ran c = c .before .before .before .before
 
 slice-aggregate-write-restated : tie.Need-slice-aggregate-write-restated
-slice-aggregate-write-restated c = let r = ran-start (told-ran (c .before)) .pre .sheet .sizes-read in simp length-take (omega arith)
+slice-aggregate-write-restated c = let r = ran-start (told-ran (c .before)) .pre .0 .sheet .sizes-read in simp length-take (omega arith)
 
 -- the word runs
 fine-at : (c : tie.After-enum-told)
@@ -67,8 +67,8 @@ fine-at c = let ran = told-ran c in run-fine (run-at ran) (c .enum-told .given .
 parts-at : (c : tie.After-enum-told)
     → let a = ran-start (told-ran c) .args in
     SheetGiven (withSteps (a .sheet .now) (stepsIn (a .section .now))) (take (a .sizes .s) (a .sheet .now))
-    (a .section .now) (a .sizes) (told-ran c .run-from-start .last .1 .1 .1 .1 .0)
-parts-at c = let ran = told-ran c in word-parts (ran-start ran .pre) (fine-at c) (ran .run-from-start .ensures _ (system-at (ran-start ran)) .1)
+    (a .section .now) (a .sizes) (a .participants .now)
+parts-at c = let s = ran-start (told-ran c) in word-parts (s .pre .0) (fine-at c) (s .pre .1)
 
 write-restated-requires : tie.Need-write-restated-requires
 write-restated-requires c κs =

@@ -8,7 +8,7 @@ use Rattle.sheet.specs.Verdict.{accepted, trailerVerdict}
 use Rattle.answers.specs.declared.Sizes.{Sizes}
 use Rattle.answers.specs.Outcomes.{outcomeOf}
 use Rattle.reading.specs.Reading.{TrailerPassed}
-use Rattle.desk.proofs.verdict.Judging.{refused-ends, refused-participants, trailer-stopped, trailer-verdict, trailer-part, participants-part, ends-part}
+use Rattle.desk.proofs.verdict.Judging.{refused-ends, refused-records, trailer-stopped, trailer-verdict, trailer-part, records-part, ends-part}
 use Rattle.desk.proofs.verdict.judge.Statement.{statement}
 use Rattle.desk.proofs.verdict.judge.Tie as tie
 
@@ -25,7 +25,7 @@ returns c =
     let a = r .read-trailer .result in
     let stop = trailer-stopped b a (c .match .keys2) (r .read-trailer .ensures) in
     let same = trailer-verdict b a (c .match .keys2) stop in
-    (refused-ends b a (trailerVerdict b accepted) stop same _ (start-at r .pre .1), refused-participants b a (trailerVerdict b accepted) stop same _)
+    (refused-ends b a (trailerVerdict b accepted) stop same _ (start-at r .pre .1), refused-records b a (trailerVerdict b accepted) stop same _)
 
 abbrev read-at : tie.After-known-told → tie.After-read-trailer
 read-at c = c .before .before .before
@@ -46,7 +46,7 @@ returns-2 c =
     let made = c .before .before .before .before .before in
     let k = made .before .before .before .before in (
       ends-part (sheet-at (read-at k)) (sizes-at k) (passed-at k) (made .judge-tables .ensures .0) (c .refusal-or-sizes .ensures),
-      participants-part (sheet-at (read-at k)) (made .judge-tables .ensures .1),
+      records-part (sheet-at (read-at k)) (made .judge-tables .ensures .1),
     )
 
 pub judge-spec : {M : Type 1} → statement M
