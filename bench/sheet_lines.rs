@@ -328,12 +328,16 @@ fn by_transitions(each: usize) -> Draft {
     draft
 }
 
-/// One component with 64 actions that each of its states can do, all states held; single steps, each action so many times.
-fn by_table(states: usize, times: usize) -> Draft {
-    let mut draft = Draft::empty(64);
-    draft.records.push(all_held(states, u64::MAX));
-    permuted(&mut draft);
-    draft.steps = (0..64 * times).map(|k| 1 << (k % 64)).collect();
+/// One component with 63 actions, each of which leads every state to the next one. Three states are held, others after each action, and no
+/// action is done from the same set as the last time: 63 turns bring no set back. Single steps, each action so many times.
+fn by_table(states: u8, times: usize) -> Draft {
+    let mut draft = Draft::empty(63);
+    let mut record = all_held(states as usize, u64::MAX >> 1);
+    record.initial = 0b1011;
+    draft.records.push(record);
+    let pairs = (0..states).flat_map(|source| (0..63).map(move |action| (source, action)));
+    draft.transitions = pairs.map(|(source, action)| [0, source, action, (source + 1) % states]).collect();
+    draft.steps = (0..63 * times).map(|k| 1 << (k % 63)).collect();
     draft
 }
 
@@ -348,12 +352,12 @@ fn growth() -> Vec<(&'static str, Vec<(usize, Vec<u8>)>)> {
             [0, 1, 2, 4].map(|k| (512 * k, by_transitions(k).bytes())).to_vec(),
         ),
         (
-            "transitions (n 1, 2 to 32 states, all held, 64 actions, each done once)",
-            [2, 8, 32].map(|k| (64 * k, by_table(k, 1).bytes())).to_vec(),
+            "transitions (n 1, 4 to 32 states, 3 held that turn, 63 actions, each done once)",
+            [4, 8, 16, 32].map(|k| (63 * k as usize, by_table(k, 1).bytes())).to_vec(),
         ),
         (
-            "transitions (n 1, 2 to 32 states, all held, 64 actions, each done 16 times)",
-            [2, 8, 32].map(|k| (64 * k, by_table(k, 16).bytes())).to_vec(),
+            "transitions (n 1, 4 to 32 states, 3 held that turn, 63 actions, each done 16 times)",
+            [4, 8, 16, 32].map(|k| (63 * k as usize, by_table(k, 16).bytes())).to_vec(),
         ),
         (
             "held states (n 1, 32 states, held sets that turn, 1,024 steps)",

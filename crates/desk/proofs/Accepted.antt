@@ -1,6 +1,6 @@
 -- An accepted sheet with its sizes, as the calls know it once it was checked: its alphabets, its dependence and its steps.
 -- Assumes nothing.
-use mathlib.Core.Path.{_≡_, sym, ap, ap₂, _∙_}
+use mathlib.Core.Path.{_≡_, sym, ap, ap₂, _∙_, subst}
 use mathlib.Core.List.{List}
 use Prim.Native.Nat.{ℕ, _-_, _*_, _≤_}
 use native.Mathlib.Omega.{arith}
@@ -11,7 +11,7 @@ use Rattle.systems.proofs.Faults.{fault-none}
 use Rattle.systems.proofs.Executions.{flat-below}
 use Rattle.sheet.specs.Bounds.{stepSize, trailerSize, mostSteps, mostInSteps}
 use Rattle.sheet.specs.Layout.{transitionsAt, stepsAt, componentCount, actionCount, tablesOf, tables, steps, stepCount}
-use Rattle.sheet.specs.Sections.{stepsIn, Alphabets}
+use Rattle.sheet.specs.Sections.{stepsIn, Decoded}
 use Rattle.sheet.specs.Verdict.{verdict, Accepted}
 use Rattle.systems.specs.Tables.{WordOver}
 use Rattle.sheet.proofs.Limits.{limits-exact}
@@ -28,6 +28,7 @@ use Rattle.answers.proofs.SizesRead.{sizes-read}
 use Rattle.answers.proofs.Restated.{accepted-limits, accepted-order, accepted-fine}
 use Rattle.desk.specs.AcceptedSheet.{AcceptedSheet}
 use Rattle.desk.specs.Calls.{CheckAnswer}
+use Rattle.desk.specs.Left.{RecordsLeft}
 
 -- N1: where the check told sizes, the sheet is accepted, and they are its own (S6), within the limits
 pub accepted-sheet : (b : List ℕ) (z : Sizes) → outcomeOf (AcceptedAnswer z) ≡ readOutcome b (verdict b) → AcceptedSheet b z
@@ -37,6 +38,10 @@ accepted-sheet b z e =
       sheet-accepted = acc;
       sizes-read = sizes-read b z (verdict b) e (λ k low high. limits-exact b .1 (accepted-limits b acc) k);
     }
+
+-- S3: the decoded records that judging left, by the sizes
+pub records-left : {b : List ℕ} {z : Sizes} → AcceptedSheet b z → {l : List ℕ} → RecordsLeft b l → Decoded (tables b) (z .n) l
+records-left {b} r {l} h = subst (λ (k : ℕ). Decoded (tables b) k l) (sym (r .sizes-read .n-read)) (h (r .sheet-accepted))
 
 -- ---- a call that asks the check first (O1)
 

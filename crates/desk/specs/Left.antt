@@ -10,7 +10,7 @@ use Rattle.systems.specs.Checking.{flat}
 use Rattle.sheet.specs.Bounds.{mostComponents}
 use Rattle.sheet.specs.Layout.{componentCount, tables}
 use Rattle.sheet.specs.Verdict.{Verdict, accepted, verdict, Accepted}
-use Rattle.dependence.specs.participants.Participants.{Participants}
+use Rattle.sheet.specs.Sections.{Decoded}
 use Rattle.answers.specs.declared.Sizes.{Sizes}
 use Rattle.answers.specs.declared.Answer.{Answer}
 use Rattle.answers.specs.declared.Answer.the-variants.{Accepted as AcceptedAnswer}
@@ -34,9 +34,9 @@ pub record EndsLeft (b : List ℕ) (r : Answer) (held : List ℕ) : Type 0 where
   pub answer-told : outcomeOf r ≡ readOutcome b (verdict b)
   pub ends : Accepted b → (j : ℕ) → j < componentCount b → getD held j 0 ≡ endSet b j
 
--- N3: of an accepted sheet the array has the components of each action
-abbrev pub ParticipantsLeft : List ℕ → List ℕ → Type 0
-ParticipantsLeft b l = Accepted b → Participants (tables b) l
+-- S3: of an accepted sheet the array has the decoded records
+abbrev pub RecordsLeft : List ℕ → List ℕ → Type 0
+RecordsLeft b l = Accepted b → Decoded (tables b) (componentCount b) l
 
 -- N8: what the restated steps may be packed into: an array of zeros that has a place for each action of the steps xs
 pub record PlacesFor (xs packed : List ℕ) : Type 0 where

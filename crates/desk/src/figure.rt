@@ -9,6 +9,7 @@ ghost use Rattle.answers.specs.Restated.{restatedSteps};
 ghost use Rattle.answers.specs.Figure.{FigureOf, figure};
 ghost use Rattle.desk.specs.AcceptedSheet.{AcceptedSheet};
 ghost use Rattle.desk.specs.Calls.{FigureAnswer};
+use crate::records;
 use crate::restate;
 use crate::verdict;
 use answers::Answer;
@@ -53,10 +54,12 @@ fn figure_at(sheet: &[u8], sizes: Sizes, participants: &[u64]) -> u64
 pub fn figure_of(sheet: &[u8]) -> Answer
     ensures { λ r. ⌜ FigureAnswer (now (sheet .entry)) r ⌝ }
 {
-    let mut participants = [0u64; 64];
-    let answer = verdict::check_with(sheet, &mut participants);
+    let mut records = [0u64; 64];
+    let answer = verdict::check_with(sheet, &mut records);
     let Answer::Accepted(sizes) = answer else {
         return answer;
     };
+    let mut participants = [0u64; 64];
+    records::participants_by(&records, sizes.n, &mut participants);
     Answer::Given(figure_at(sheet, sizes, &participants))
 }

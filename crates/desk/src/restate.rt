@@ -11,6 +11,7 @@ ghost use Rattle.dependence.specs.participants.Participants.{Participants};
 ghost use Rattle.desk.specs.AcceptedSheet.{AcceptedSheet, SheetGiven, SomeSheet};
 ghost use Rattle.desk.specs.Left.{PlacesFor, PackedSteps};
 ghost use Rattle.desk.specs.Calls.{RestateAnswer};
+use crate::records;
 use crate::verdict;
 use answers::Answer;
 use answers::Sizes;
@@ -123,12 +124,14 @@ pub fn restate(sheet: &[u8], out: &mut [u8]) -> Answer
     let Answer::Accepted(sizes) = read else {
         return read;
     };
-    let mut participants = [0u64; 64];
+    let mut records = [0u64; 64];
     let mut held = [0u64; 16];
-    let judged = verdict::judge_tables(sheet, sizes, &mut participants, &mut held);
+    let judged = verdict::judge_tables(sheet, sizes, &mut records, &mut held);
     let Answer::Accepted(known) = judged else {
         return judged;
     };
+    let mut participants = [0u64; 64];
+    records::participants_by(&records, known.n, &mut participants);
     let s = known.s;
     write_restated(
         &sheet[..s],

@@ -6,6 +6,7 @@ ghost use Rattle.dependence.specs.participants.Participants.{Participants};
 ghost use Rattle.answers.specs.Stuck.{stuck};
 ghost use Rattle.desk.specs.AcceptedSheet.{AcceptedSheet};
 ghost use Rattle.desk.specs.Calls.{endArrayBy, StuckAnswer};
+use crate::records;
 use crate::verdict;
 use answers::Answer;
 use answers::Sizes;
@@ -24,12 +25,14 @@ pub fn stuck_at(sheet: &[u8], sizes: Sizes, participants: &[u64], sets: &[u64]) 
 pub fn is_stuck(sheet: &[u8]) -> Answer
     ensures { λ r. ⌜ StuckAnswer (now (sheet .entry)) r ⌝ }
 {
-    let mut participants = [0u64; 64];
-    let ended = verdict::end_sets_with(sheet, &mut participants);
+    let mut records = [0u64; 64];
+    let ended = verdict::end_sets_with(sheet, &mut records);
     let answer = ended.answer;
     let Answer::Accepted(sizes) = answer else {
         return answer;
     };
+    let mut participants = [0u64; 64];
+    records::participants_by(&records, sizes.n, &mut participants);
     let sets = ended.sets;
     Answer::Given(answers::bit(stuck_at(sheet, sizes, &participants, &sets)))
 }

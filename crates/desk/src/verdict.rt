@@ -2,11 +2,11 @@
 ghost use mathlib.Core.Path.{_≡_};
 ghost use mathlib.Core.List.{map};
 ghost use Prim.Native.Nat.{_≤_};
-ghost use lib.ListN.{length, replicate};
+ghost use lib.ListN.{length};
 ghost use Rattle.sets.specs.Lists.{below};
 ghost use Rattle.reading.specs.Reading.{TrailerPassed};
 ghost use Rattle.desk.specs.Calls.{CheckAnswer, EndSetsAnswer};
-ghost use Rattle.desk.specs.Left.{setBelow, ToldWithSizes, EndsLeft, ParticipantsLeft};
+ghost use Rattle.desk.specs.Left.{setBelow, ToldWithSizes, EndsLeft, RecordsLeft};
 use answers::Answer;
 use answers::EndSets;
 use answers::Sizes;
@@ -30,19 +30,13 @@ fn refusal_or_sizes(answer: Answer, sizes: Sizes) -> Answer
     }
 }
 
-// Refusals 5 to 12 of a sheet whose trailer passed, or its sizes. Of an accepted sheet the first sets held are the end sets of its
-// components, and `participants`, which comes with zeros, has the components of each action.
-pub fn judge_tables(
-    sheet: &[u8],
-    sizes: Sizes,
-    participants: &mut [u64],
-    held: &mut [u64],
-) -> Answer
-    requires { ⌜ TrailerPassed (now sheet) sizes × (now participants ≡ replicate 64 0) × (length (now held) ≡ 16) ⌝ }
-    ensures { λ r. ⌜ EndsLeft (now (sheet .entry)) r (now (held .exit)) × ParticipantsLeft (now (sheet .entry)) (now (participants .exit)) ⌝ }
+// Refusals 5 to 12 of a sheet whose trailer passed, or its sizes. Of an accepted sheet the decoded records are left in `records`, and the first
+// sets held are the end sets of its components.
+pub fn judge_tables(sheet: &[u8], sizes: Sizes, records: &mut [u64], held: &mut [u64]) -> Answer
+    requires { ⌜ TrailerPassed (now sheet) sizes × (length (now records) ≡ 64) × (length (now held) ≡ 16) ⌝ }
+    ensures { λ r. ⌜ EndsLeft (now (sheet .entry)) r (now (held .exit)) × RecordsLeft (now (sheet .entry)) (now (records .exit)) ⌝ }
 {
-    let mut records = [0u64; 64];
-    let read = reading::read_tables(sheet, sizes, &mut records);
+    let read = reading::read_tables(sheet, sizes, records);
     let Answer::Accepted(_) = read else {
         return read;
     };
@@ -52,42 +46,41 @@ pub fn judge_tables(
         &sheet[t..s],
         reading::step_section(sheet, s),
         sizes,
-        &records,
-        participants,
+        records,
         held,
     )
 }
 
 // The same for the check and the end sets, which answer at once what comes of it. The sheet is handed on as a part, whose bounds are in
 // registers; the bounds of the sheet itself would be copied in memory.
-fn judge_passed(sheet: &[u8], sizes: Sizes, participants: &mut [u64], held: &mut [u64]) -> Answer
-    requires { ⌜ TrailerPassed (now sheet) sizes × (now participants ≡ replicate 64 0) × (length (now held) ≡ 16) ⌝ }
-    ensures { λ r. ⌜ EndsLeft (now (sheet .entry)) r (now (held .exit)) × ParticipantsLeft (now (sheet .entry)) (now (participants .exit)) ⌝ }
+fn judge_passed(sheet: &[u8], sizes: Sizes, records: &mut [u64], held: &mut [u64]) -> Answer
+    requires { ⌜ TrailerPassed (now sheet) sizes × (length (now records) ≡ 64) × (length (now held) ≡ 16) ⌝ }
+    ensures { λ r. ⌜ EndsLeft (now (sheet .entry)) r (now (held .exit)) × RecordsLeft (now (sheet .entry)) (now (records .exit)) ⌝ }
 {
-    refusal_or_sizes(judge_tables(&sheet[0..], sizes, participants, held), sizes)
+    refusal_or_sizes(judge_tables(&sheet[0..], sizes, records, held), sizes)
 }
 
-// The verdict on a sheet. Of an accepted sheet the first sets held are the end sets of its components, and `participants`, which comes with
-// zeros, has the components of each action.
-fn judge(sheet: &[u8], participants: &mut [u64], held: &mut [u64]) -> Answer
-    requires { ⌜ (now participants ≡ replicate 64 0) × (length (now held) ≡ 16) ⌝ }
-    ensures { λ r. ⌜ EndsLeft (now (sheet .entry)) r (now (held .exit)) × ParticipantsLeft (now (sheet .entry)) (now (participants .exit)) ⌝ }
+// The verdict on a sheet. Of an accepted sheet the decoded records are left in `records`, and the first sets held are the end sets of its
+// components.
+fn judge(sheet: &[u8], records: &mut [u64], held: &mut [u64]) -> Answer
+    requires { ⌜ (length (now records) ≡ 64) × (length (now held) ≡ 16) ⌝ }
+    ensures { λ r. ⌜ EndsLeft (now (sheet .entry)) r (now (held .exit)) × RecordsLeft (now (sheet .entry)) (now (records .exit)) ⌝ }
 {
     let read = reading::read_trailer(sheet);
     let Answer::Accepted(sizes) = read else {
         return read;
     };
-    judge_passed(sheet, sizes, participants, held)
+    judge_passed(sheet, sizes, records, held)
 }
 
-// The verdict on a sheet: accepted with its sizes, or refused with number and step index. Of an accepted sheet `participants`, which comes
-// with zeros, has the components of each action.
-pub fn check_with(sheet: &[u8], participants: &mut [u64]) -> Answer
-    requires { ⌜ now participants ≡ replicate 64 0 ⌝ }
-    ensures { λ r. ⌜ CheckAnswer (now (sheet .entry)) r × ParticipantsLeft (now (sheet .entry)) (now (participants .exit)) ⌝ }
+// The verdict on a sheet: accepted with its sizes, or refused with number and step index. Of an accepted sheet the decoded records are left
+// in `records`.
+pub fn check_with(sheet: &[u8], records: &mut [u64]) -> Answer
+    requires { ⌜ length (now records) ≡ 64 ⌝ }
+    ensures { λ r. ⌜ CheckAnswer (now (sheet .entry)) r × RecordsLeft (now (sheet .entry)) (now (records .exit)) ⌝ }
 {
     let mut held = [0u64; 16];
-    judge(sheet, participants, &mut held)
+    judge(sheet, records, &mut held)
 }
 
 // The verdict on a sheet. The trailer is read first: a sheet that it refuses does not pay for the arrays.
@@ -98,9 +91,9 @@ pub fn check(sheet: &[u8]) -> Answer
     let Answer::Accepted(sizes) = told else {
         return told;
     };
-    let mut participants = [0u64; 64];
+    let mut records = [0u64; 64];
     let mut held = [0u64; 16];
-    judge_passed(sheet, sizes, &mut participants, &mut held)
+    judge_passed(sheet, sizes, &mut records, &mut held)
 }
 
 // The set with index j where j is below n, else the empty set.
@@ -128,14 +121,13 @@ fn first_sets(held: &[u64], n: usize) -> [u64; 16]
     sets
 }
 
-// The end sets of a sheet: where each component may be after the last step. Of an accepted sheet `participants`, which comes with zeros, has
-// the components of each action.
-pub fn end_sets_with(sheet: &[u8], participants: &mut [u64]) -> EndSets
-    requires { ⌜ now participants ≡ replicate 64 0 ⌝ }
-    ensures { λ r. ⌜ EndSetsAnswer (now (sheet .entry)) r × ParticipantsLeft (now (sheet .entry)) (now (participants .exit)) ⌝ }
+// The end sets of a sheet: where each component may be after the last step. Of an accepted sheet the decoded records are left in `records`.
+pub fn end_sets_with(sheet: &[u8], records: &mut [u64]) -> EndSets
+    requires { ⌜ length (now records) ≡ 64 ⌝ }
+    ensures { λ r. ⌜ EndSetsAnswer (now (sheet .entry)) r × RecordsLeft (now (sheet .entry)) (now (records .exit)) ⌝ }
 {
     let mut held = [0u64; 16];
-    let answer = judge(sheet, participants, &mut held);
+    let answer = judge(sheet, records, &mut held);
     let Answer::Accepted(sizes) = answer else {
         return EndSets {
             answer,
@@ -152,6 +144,6 @@ pub fn end_sets_with(sheet: &[u8], participants: &mut [u64]) -> EndSets
 pub fn end_sets(sheet: &[u8]) -> EndSets
     ensures { λ r. ⌜ EndSetsAnswer (now (sheet .entry)) r ⌝ }
 {
-    let mut participants = [0u64; 64];
-    end_sets_with(sheet, &mut participants)
+    let mut records = [0u64; 64];
+    end_sets_with(sheet, &mut records)
 }

@@ -6,6 +6,7 @@ use Prim.Native.Nat.{ℕ, _-_}
 use native.Mathlib.Omega.{arith}
 use lib.ListN.{length, take, drop}
 use lib.Seq.{take-all}
+use Rattle.systems.specs.Tables.{Tables}
 use Rattle.systems.specs.Running.{start}
 use Rattle.systems.specs.Checking.{firstFault}
 use Rattle.sheet.specs.Layout.{componentCount, actionCount, transitionsAt, stepsAt, tablesOf, tables, steps}
@@ -14,7 +15,6 @@ use Rattle.sheet.specs.Verdict.{Verdict, accepted, refused, ofFault, trailerVer
 use Rattle.sheet.proofs.Guards.{trailer-guard, tables-guard, guard-stopped, guard-passed}
 use Rattle.sheet.proofs.RoundTrip.{section-steps}
 use Rattle.sheet.proofs.Verdicts.{passed-limits}
-use Rattle.dependence.specs.participants.Participants.{Participants}
 use Rattle.answers.specs.declared.Sizes.{Sizes}
 use Rattle.answers.specs.declared.Answer.{Answer}
 use Rattle.answers.specs.declared.Answer.the-variants.{Accepted as AcceptedAnswer}
@@ -27,7 +27,7 @@ use Rattle.reading.proofs.Passing.{trailer-then}
 use Rattle.sheet.specs.Sections.{stepsIn, Decoded}
 use Rattle.machine.specs.Runs.{SystemOf, RunFromStart}
 use Rattle.desk.proofs.Parts.{tables-told, system-given}
-use Rattle.desk.specs.Left.{ToldWithSizes, EndsLeft, ParticipantsLeft}
+use Rattle.desk.specs.Left.{ToldWithSizes, EndsLeft, RecordsLeft}
 
 -- ---- a refused sheet leaves nothing that is promised
 
@@ -39,8 +39,8 @@ module _ (b : List ℕ) (r : Answer) (v : Verdict) (s : IsRefusal r v) (same : v
   refused-ends held size =
       record { size = size; answer-told = refused-told; ends = λ acc j l. let z : _≡_ {A = ℕ} 0 1 = cc in absurd (omega arith) }
 
-  pub refused-participants : (l : List ℕ) → ParticipantsLeft b l
-  refused-participants l acc = let z : _≡_ {A = ℕ} 0 1 = cc in absurd (omega arith)
+  pub refused-records : (l : List ℕ) → RecordsLeft b l
+  refused-records l acc = let z : _≡_ {A = ℕ} 0 1 = cc in absurd (omega arith)
 
 module _ (b : List ℕ) (r : Answer) (h : NotAccepted r) where
   -- by the trailer
@@ -121,8 +121,10 @@ module _ (b : List ℕ) (z : Sizes) (t : TrailerPassed b z) where
       pub run-answered : EndsLeft b r held
       run-answered = sheet-answered r held run-sheet
 
-    pub run-participants : (l : List ℕ) → Participants (tablesOf (take (w .s) b) (w .n) (w .m)) l → ParticipantsLeft b l
-    run-participants l o acc = rw (sym same-tables) o
+    -- the decoded records are those of the sheet (S3)
+    pub run-records : (l : List ℕ) → Decoded (tablesOf (take (w .s) b) (w .n) (w .m)) (w .n) l → RecordsLeft b l
+    run-records l d acc =
+        subst (λ (k : ℕ). Decoded (tables b) k l) (tables-told-accepted .1) (subst (λ (T : Tables). Decoded T (w .n) l) same-tables d)
 
 -- ---- a sheet handed on as its part from 0 to its end: that is all of it
 
@@ -133,8 +135,8 @@ module _ (b : List ℕ) where
   pub trailer-part : (z : Sizes) → TrailerPassed b z → TrailerPassed (take (length b - 0) b) z
   trailer-part z e = subst (λ (x : List ℕ). TrailerPassed x z) (sym part-whole) e
 
-  pub participants-part : {l : List ℕ} → ParticipantsLeft (take (length b - 0) b) l → ParticipantsLeft b l
-  participants-part {l} h = subst (λ (x : List ℕ). ParticipantsLeft x l) part-whole h
+  pub records-part : {l : List ℕ} → RecordsLeft (take (length b - 0) b) l → RecordsLeft b l
+  records-part {l} h = subst (λ (x : List ℕ). RecordsLeft x l) part-whole h
 
   pub ends-part : (z : Sizes) → TrailerPassed b z → {a r : Answer} {held : List ℕ} → EndsLeft (take (length b - 0) b) a held
       → ToldWithSizes a z r → EndsLeft b r held

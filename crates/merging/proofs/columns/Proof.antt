@@ -8,7 +8,7 @@ use Rattle.sheet.specs.Verdict.{verdict}
 use Rattle.answers.specs.Outcomes.{outcomeOf}
 use Rattle.answers.proofs.Passing.{stopped-by}
 use Rattle.columns.specs.Calls.{ColumnsAnswer}
-use Rattle.desk.proofs.Accepted.{accepted-sheet}
+use Rattle.desk.proofs.Accepted.{accepted-sheet, records-left}
 use Rattle.desk.proofs.verdict.Judging.{trailer-stopped, trailer-verdict}
 use Rattle.merging.proofs.columns.Statement.{statement}
 use Rattle.merging.proofs.columns.Tie as tie
@@ -50,11 +50,9 @@ merge-columns-requires : tie.Need-merge-columns-requires
 merge-columns-requires c κs =
     let k = c .before .before in
     let d = k .before .before .before .before .before in
-    let b = judged-start d .args .sheet .now in (
-      accepted-sheet b (k .before .judged .given .0 .0)
-          (ap outcomeOf (sym (k .before .judged .given .1)) ∙ d .judge-tables .ensures .0 .answer-told),
-      d .judge-tables .ensures .1,
-    )
+    let b = judged-start d .args .sheet .now in
+    let told = accepted-sheet b (k .before .judged .given .0 .0) (ap outcomeOf (sym (k .before .judged .given .1)) ∙ d .judge-tables .ensures .0 .answer-told) in
+    (told, records-left told (d .judge-tables .ensures .1))
 
 pub columns-spec : {M : Type 1} → statement M
 columns-spec =

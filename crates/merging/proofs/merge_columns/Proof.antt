@@ -9,6 +9,7 @@ use lib.ListN.{length-take}
 use borrow.Author.Needs.{needs}
 use Rattle.sheet.specs.Layout.{tables}
 use Rattle.sheet.specs.Sections.{Alphabets}
+use Rattle.dependence.specs.participants.Participants.{Participants}
 use Rattle.answers.specs.Outcomes.{outcomeOf}
 use Rattle.columns.specs.Calls.{ColumnsAnswer}
 use Rattle.desk.proofs.Parts.{decoded-alphabets}
@@ -17,16 +18,13 @@ use Rattle.merging.proofs.MergedColumns.{left-not, word-given, word-ans
 use Rattle.merging.proofs.merge_columns.Statement.{statement}
 use Rattle.merging.proofs.merge_columns.Tie as tie
 
-abbrev records-at : tie.After-alphabets → tie.After-records-of
-records-at c = c .before .before .before
-
 abbrev start-at : tie.After-alphabets → tie.Start
-start-at c = records-at c .before .before .before .before .before .before
+start-at c = c .before .before .before .before .before
 
 -- the alphabets of the sheet, among its records
 alphabets-told : (c : tie.After-alphabets)
     → let a = start-at c .args in Alphabets (tables (a .sheet .now)) (a .sizes .n) (c .alphabets .result .now)
-alphabets-told c = decoded-alphabets (records-at c .records-of .ensures) (c .alphabets .ensures)
+alphabets-told c = decoded-alphabets (start-at c .pre .1) (c .alphabets .ensures)
 
 read-columns-requires : tie.Need-read-columns-requires
 read-columns-requires c κs =
@@ -59,25 +57,39 @@ returns c =
 abbrev read-at : tie.After-enum-told → tie.After-read-columns
 read-at c = c .before .before .before .before
 
--- by the alphabets of the sheet, which are found, and by the participants, which are handed over
-abbrev Known : tie.After-enum-told → Type 0
+participants-by-requires : tie.Need-participants-by-requires
+participants-by-requires c κs =
+    let p = start-at (named-at (read-at (c .before))) .pre in
+    (p .0 .sizes-read .n-high, p .1 .size, refl)
+
+-- where the columns were read, from behind the participants
+abbrev told-at : tie.After-participants-by → tie.After-enum-told
+told-at c = c .before .before
+
+-- the participants of each action
+participants-told : (c : tie.After-participants-by)
+    → let s = start-at (named-at (read-at (told-at c))) in Participants (tables (s .args .sheet .now)) (c .participants-by .last .1 .1 .0)
+participants-told c = c .participants-by .ensures _ (start-at (named-at (read-at (told-at c))) .pre .1)
+
+-- by the alphabets of the sheet and the participants, which are found
+abbrev Known : tie.After-participants-by → Type 0
 Known c =
-    let read = read-at c in
+    let read = read-at (told-at c) in
     let a = start-at (named-at read) .args in
-    Found (a .sheet .now) (a .sizes) (named-at read .alphabets .result .now) (a .participants .now) (a .columns .now) (heads-at read)
+    Found (a .sheet .now) (a .sizes) (named-at read .alphabets .result .now) (c .participants-by .last .1 .1 .0) (a .columns .now) (heads-at read)
     (ends-at read)
 
-known : (c : tie.After-enum-told) → Known c
+known : (c : tie.After-participants-by) → Known c
 known c =
-    let read = read-at c in
+    let read = read-at (told-at c) in
     let named = named-at read in
     let k = start-at named .pre in
-    found-by (read .read-columns .result) _ (c .enum-told .given .1) (k .0) (alphabets-told named)
-    (k .1 (k .0 .sheet-accepted)) (read .read-columns .ensures)
+    found-by (read .read-columns .result) _ (told-at c .enum-told .given .1) (k .0) (alphabets-told named) (participants-told c)
+    (read .read-columns .ensures)
 
 merge-requires : tie.Need-merge-requires
 merge-requires c κs =
-    let f = known (c .before .before .before) in
+    let f = known (c .before .before .before .before .before) in
     (lined f, f .sheet .sizes-read .n-high, f .read .behind, few-left f, refl)
 
 -- ---- the columns were merged
@@ -85,8 +97,8 @@ merge-requires c κs =
 abbrev merged-at : tie.After-some-left → tie.After-merge
 merged-at c = c .before .before .before .before .before
 
-abbrev passed-at : tie.After-merge → tie.After-enum-told
-passed-at c = c .before .before .before .before
+abbrev passed-at : tie.After-merge → tie.After-participants-by
+passed-at c = c .before .before .before .before .before .before
 
 returns-2 : tie.Need-returns-2
 returns-2 c =
@@ -107,7 +119,8 @@ restate-word-requires : tie.Need-restate-word-requires
 restate-word-requires c κs =
     let made = merged-at (c .before .before .before .before) in
     let passed = passed-at made in
-    word-given (known passed) (made .merge .ensures) (records-at (named-at (read-at passed)) .records-of .ensures)
+    let decoded = start-at (named-at (read-at (told-at passed))) .pre .1 in
+    (word-given (known passed) (made .merge .ensures) decoded, participants-told passed)
 
 returns-3 : tie.Need-returns-3
 returns-3 c =
@@ -121,15 +134,15 @@ pub merge-columns-spec : {M : Type 1} → statement M
 merge-columns-spec =
     tie.close
     (tie.spec
-    (λ c. search needs)
-    (λ c κs. search needs)
-    (λ c. search needs)
     (λ c κs. search needs)
     (λ c. search needs)
     (λ c. search needs)
     read-columns-requires
     (λ c. search needs)
     returns
+    (λ c. search needs)
+    participants-by-requires
+    (λ c. search needs)
     (λ c. search needs)
     (λ c. search needs)
     (λ c. search needs)

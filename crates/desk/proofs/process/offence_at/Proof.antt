@@ -18,21 +18,20 @@ use Rattle.desk.proofs.process.offence_at.Tie as tie
 returns : tie.Need-returns
 returns c =
     let named = c .before in
-    let cut = named .before .before in
-    let read = cut .before .before in
-    let s = read .before .before .before in
+    let cut = named .before in
+    let s = cut .before .before .before in
     let b = s .args .sheet .now in
     let z = s .args .sizes in
     let part = cut .step-section .ensures in
-    c .first-offence .ensures (tables b) (accepted-order b (s .pre .sheet-accepted))
-    (decoded-alphabets (read .records-of .ensures) (named .alphabets .ensures)) (section-over b z (s .pre) _ part)
-    ∙ ap (λ (xs : List ℕ). offending (firstOffence (dependent (tables b)) (map members xs))) (section-told b z (s .pre) _ part)
+    c .first-offence .ensures (tables b) (accepted-order b (s .pre .0 .sheet-accepted))
+    (decoded-alphabets (s .pre .1) (named .alphabets .ensures)) (section-over b z (s .pre .0) _ part)
+    ∙ ap (λ (xs : List ℕ). offending (firstOffence (dependent (tables b)) (map members xs))) (section-told b z (s .pre .0) _ part)
 
 first-offence-requires : tie.Need-first-offence-requires
 first-offence-requires c κs =
-    let s = c .before .before .before .before .before .before .before in
-    let A = decoded-alphabets (c .before .before .before .before .records-of .ensures) (c .alphabets .ensures) in
-    let few = s .pre .sizes-read .n-high in
+    let s = c .before .before .before .before in
+    let A = decoded-alphabets (s .pre .1) (c .alphabets .ensures) in
+    let few = s .pre .0 .sizes-read .n-high in
     let size = A .size in
     omega arith
 
@@ -40,10 +39,7 @@ pub offence-at-spec : {M : Type 1} → statement M
 offence-at-spec =
     tie.close
     (tie.spec
-    (λ c. search needs)
     (λ c κs. search needs)
-    (λ c κs. search needs)
-    (λ c. search needs)
     (λ c κs. search needs)
     first-offence-requires
     returns)

@@ -16,7 +16,7 @@ use Rattle.answers.specs.ProcessCheck.{processCheck}
 use Rattle.answers.proofs.Passing.{NotAccepted, told-given}
 use Rattle.desk.specs.AcceptedSheet.{AcceptedSheet}
 use Rattle.desk.specs.Calls.{CheckAnswer, ProcessAnswer}
-use Rattle.desk.proofs.Accepted.{check-accepted, check-refused}
+use Rattle.desk.proofs.Accepted.{check-accepted, check-refused, records-left}
 use Rattle.desk.proofs.process.process_check.Statement.{statement}
 use Rattle.desk.proofs.process.process_check.Tie as tie
 
@@ -32,18 +32,34 @@ unfolding processCheck
 given-told b x acc e = told-given (λ o. oneValue (offending o)) (verdict b) (offence b) (oneValue x) acc (ap oneValue e)
 
 returns : tie.Need-returns
-returns c = refused-told (c .before .before .before .args .sheet .now) (c .before .check .result) (c .match .keys2) (c .before .check .ensures)
+returns c =
+    let d = c .before .before in
+    refused-told (d .before .before .before .args .sheet .now) (d .check-with .result) (c .match .keys2) (d .check-with .ensures .0)
 
-accepted-at : (c : tie.After-known-told) → AcceptedSheet (c .before .before .before .before .before .args .sheet .now) (c .before .answer .given .0 .0)
-accepted-at c = check-accepted _ _ _ (c .before .answer .given .1) (c .before .before .before .check .ensures)
+abbrev checked-at : tie.After-known-told → tie.After-check-with
+checked-at c = c .before .before .before .before
+
+accepted-at : (c : tie.After-known-told) → AcceptedSheet (checked-at c .before .before .before .args .sheet .now) (c .before .answer .given .0 .0)
+accepted-at c = check-accepted _ _ _ (c .before .answer .given .1) (checked-at c .check-with .ensures .0)
 
 offence-at-requires : tie.Need-offence-at-requires
-offence-at-requires c κs = accepted-at c
+offence-at-requires c κs =
+    let k = c .before in
+    (accepted-at k, records-left (accepted-at k) (checked-at k .check-with .ensures .1))
 
 returns-2 : tie.Need-returns-2
 returns-2 c =
-    given-told (c .before .before .before .before .before .before .args .sheet .now) (c .offence-at .result) (accepted-at (c .before) .sheet-accepted)
-    (c .offence-at .ensures)
+    let k = c .before .before in
+    given-told (checked-at k .before .before .before .args .sheet .now) (c .offence-at .result) (accepted-at k .sheet-accepted) (c .offence-at .ensures)
 
 pub process-check-spec : {M : Type 1} → statement M
-process-check-spec = tie.close (tie.spec (λ c κs. search needs) (λ c. search needs) returns offence-at-requires returns-2)
+process-check-spec =
+    tie.close
+    (tie.spec
+    (λ c. search needs)
+    (λ c κs. search needs)
+    (λ c. search needs)
+    returns
+    (λ c. search needs)
+    offence-at-requires
+    returns-2)

@@ -5,12 +5,13 @@ use mathlib.Core.Path.{refl, sym, ap, _∙_}
 use native.Mathlib.Omega.{arith}
 use lib.ListN.{take, length-take}
 use borrow.Author.Needs.{needs}
-use Rattle.sheet.specs.Layout.{componentCount, actionCount, transitionsAt, stepsAt}
+use Rattle.sheet.specs.Layout.{componentCount, actionCount, transitionsAt, stepsAt, tables}
+use Rattle.sheet.specs.Sections.{Decoded}
 use Rattle.sheet.specs.Verdict.{verdict, accepted, trailerVerdict}
 use Rattle.answers.specs.Outcomes.{outcomeOf}
 use Rattle.answers.proofs.Passing.{stopped-by}
 use Rattle.desk.specs.AcceptedSheet.{AcceptedSheet, SheetGiven}
-use Rattle.desk.proofs.Accepted.{accepted-sheet}
+use Rattle.desk.proofs.Accepted.{accepted-sheet, records-left}
 use Rattle.desk.proofs.verdict.Judging.{trailer-stopped, trailer-verdict}
 use Rattle.desk.proofs.restate.PackedSheets.{whole-given}
 use Rattle.desk.proofs.restate.RestateAnswers.{restate-refused}
@@ -60,22 +61,32 @@ sheet-at c =
     accepted-sheet (judged-start (judged-at c) .args .sheet .now) (c .before .judged .given .0 .0)
     (ap outcomeOf (sym (c .before .judged .given .1)) ∙ judged-at c .judge-tables .ensures .0 .answer-told)
 
+-- its decoded records
+decoded-at : (c : tie.After-known-told2)
+    → Decoded (tables (judged-start (judged-at c) .args .sheet .now)) (c .before .judged .given .0 .0 .n) (judged-at c .judge-tables .last .1 .1 .0)
+decoded-at c = records-left (sheet-at c) (judged-at c .judge-tables .ensures .1)
+
+participants-by-requires : tie.Need-participants-by-requires
+participants-by-requires c κs =
+    let k = c .before .before in
+    (sheet-at k .sizes-read .n-high, decoded-at k .size, refl)
+
 slice-aggregate-write-restated : tie.Need-slice-aggregate-write-restated
-slice-aggregate-write-restated c = let r = sheet-at (c .before) .sizes-read in simp length-take (omega arith)
+slice-aggregate-write-restated c = let r = sheet-at (c .before .before .before .before .before) .sizes-read in simp length-take (omega arith)
 
 step-section-requires : tie.Need-step-section-requires
-step-section-requires c κs = let r = sheet-at (c .before) .sizes-read in omega arith
+step-section-requires c κs = let r = sheet-at (c .before .before .before .before .before) .sizes-read in omega arith
 
 abbrev known-at : tie.After-step-section → tie.After-known-told2
-known-at c = c .before .before
+known-at c = c .before .before .before .before .before .before
 
 -- and its parts
 given-at : (c : tie.After-step-section)
     → let k = known-at c in let b = judged-start (judged-at k) .args .sheet .now in let z = k .before .judged .given .0 .0 in
-    SheetGiven b (take (z .s) b) (c .step-section .result .now) z (judged-at k .judge-tables .last .1 .1 .0)
+    SheetGiven b (take (z .s) b) (c .step-section .result .now) z (c .before .before .before .participants-by .last .1 .1 .0)
 given-at c =
     let k = known-at c in
-    whole-given _ _ (sheet-at k) _ (c .step-section .ensures) _ (judged-at k .judge-tables .ensures .1 (sheet-at k .sheet-accepted))
+    whole-given _ _ (sheet-at k) _ (c .step-section .ensures) _ (c .before .before .before .participants-by .ensures _ (decoded-at k))
 
 write-restated-requires : tie.Need-write-restated-requires
 write-restated-requires c κs = let d = c .before .before in (judged-start (judged-at (known-at d)) .args .sheet .now, given-at d)
@@ -98,6 +109,9 @@ restate-spec =
     judge-tables-requires
     (λ c. search needs)
     returns-2
+    (λ c. search needs)
+    (λ c. search needs)
+    participants-by-requires
     slice-aggregate-write-restated
     step-section-requires
     (λ c. search needs)

@@ -1,10 +1,12 @@
 -- `stuck::is_stuck` meets its contract (A5): whether an accepted sheet is stuck, else the sheet's refusal.
 -- Assumes nothing.
-use mathlib.Core.Path.{_≡_, ap, _∙_}
+use mathlib.Core.Path.{_≡_, refl, ap, _∙_}
 use mathlib.Core.Bool.{Bool}
 use mathlib.Core.List.{List}
 use Prim.Native.Nat.{ℕ}
 use borrow.Author.Needs.{needs}
+use Rattle.sheet.specs.Layout.{tables}
+use Rattle.sheet.specs.Sections.{Decoded}
 use Rattle.sheet.specs.Verdict.{Verdict, verdict}
 use Rattle.answers.specs.declared.Answer.{Answer}
 use Rattle.answers.specs.Outcomes.{oneValue, bit}
@@ -12,7 +14,7 @@ use Rattle.answers.specs.Stuck.{stuck, stuckOutcome}
 use Rattle.answers.proofs.Passing.{NotAccepted, told-given}
 use Rattle.desk.specs.AcceptedSheet.{AcceptedSheet}
 use Rattle.desk.specs.Calls.{CheckAnswer, StuckAnswer}
-use Rattle.desk.proofs.Accepted.{check-accepted, check-refused}
+use Rattle.desk.proofs.Accepted.{check-accepted, check-refused, records-left}
 use Rattle.desk.proofs.stuck.is_stuck.Statement.{statement}
 use Rattle.desk.proofs.stuck.is_stuck.Tie as tie
 
@@ -38,15 +40,26 @@ ended-at c = c .before .before .before .before
 accepted-at : (c : tie.After-known-told) → AcceptedSheet (ended-at c .before .before .before .args .sheet .now) (c .before .answer .given .0 .0)
 accepted-at c = check-accepted _ _ _ (c .before .answer .given .1) (ended-at c .end-sets-with .ensures .0 .answer-told)
 
+-- its decoded records
+decoded-at : (c : tie.After-known-told) → let d = ended-at c in
+    Decoded (tables (d .before .before .before .args .sheet .now)) (c .before .answer .given .0 .0 .n) (d .end-sets-with .last .1 .0)
+decoded-at c = records-left (accepted-at c) (ended-at c .end-sets-with .ensures .1)
+
+participants-by-requires : tie.Need-participants-by-requires
+participants-by-requires c κs =
+    let k = c .before .before in
+    (accepted-at k .sizes-read .n-high, decoded-at k .size, refl)
+
 stuck-at-requires : tie.Need-stuck-at-requires
 stuck-at-requires c κs =
-    let k = c .before .before .before in
-    (accepted-at k, ended-at k .end-sets-with .ensures .1 (accepted-at k .sheet-accepted), ended-at k .end-sets-with .ensures .0 .sets-told)
+    let made = c .before .before .before .before in
+    let k = made .before .before .before in
+    (accepted-at k, made .participants-by .ensures _ (decoded-at k), ended-at k .end-sets-with .ensures .0 .sets-told)
 
 returns-2 : tie.Need-returns-2
 returns-2 c =
     let at = c .before in
-    let k = at .before .before .before .before in
+    let k = at .before .before .before .before .before .before .before .before in
     given-told (ended-at k .before .before .before .args .sheet .now) (c .bit .result) (at .stuck-at .result) (accepted-at k .sheet-accepted)
     (c .bit .ensures) (at .stuck-at .ensures)
 
@@ -58,6 +71,9 @@ is-stuck-spec =
     (λ c κs. search needs)
     (λ c. search needs)
     returns
+    (λ c. search needs)
+    (λ c. search needs)
+    participants-by-requires
     (λ c. search needs)
     (λ c. search needs)
     stuck-at-requires

@@ -1,10 +1,10 @@
--- `verdict::judge` meets its contract (O1, E5, N3): the refusal of the trailer, or what judging the sheet answers and leaves.
+-- `verdict::judge` meets its contract (O1, E5, S3): the refusal of the trailer, or what judging the sheet answers and leaves.
 -- Assumes nothing.
 use mathlib.Core.Path.{sym, ap, _∙_}
 use borrow.Author.Needs.{needs}
 use Rattle.sheet.specs.Verdict.{accepted, trailerVerdict}
 use Rattle.answers.specs.Outcomes.{outcomeOf}
-use Rattle.desk.proofs.verdict.Judging.{refused-ends, refused-participants, trailer-stopped, trailer-verdict}
+use Rattle.desk.proofs.verdict.Judging.{refused-ends, refused-records, trailer-stopped, trailer-verdict}
 use Rattle.desk.proofs.verdict.judge.Statement.{statement}
 use Rattle.desk.proofs.verdict.judge.Tie as tie
 
@@ -18,7 +18,7 @@ returns c =
     let a = r .read-trailer .result in
     let stop = trailer-stopped b a (c .match .keys2) (r .read-trailer .ensures) in
     let same = trailer-verdict b a (c .match .keys2) stop in
-    (refused-ends b a (trailerVerdict b accepted) stop same _ (start-at r .pre .1), refused-participants b a (trailerVerdict b accepted) stop same _)
+    (refused-ends b a (trailerVerdict b accepted) stop same _ (start-at r .pre .1), refused-records b a (trailerVerdict b accepted) stop same _)
 
 judge-passed-requires : tie.Need-judge-passed-requires
 judge-passed-requires c κs =

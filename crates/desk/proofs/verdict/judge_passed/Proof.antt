@@ -1,7 +1,7 @@
--- `verdict::judge_passed` meets its contract (O1, E5, N3): what judging the tables of the whole sheet answers and leaves, told with the sizes.
+-- `verdict::judge_passed` meets its contract (O1, E5, S3): what judging the tables of the whole sheet answers and leaves, told with the sizes.
 -- Assumes nothing.
 use borrow.Author.Needs.{needs}
-use Rattle.desk.proofs.verdict.Judging.{trailer-part, participants-part, ends-part}
+use Rattle.desk.proofs.verdict.Judging.{trailer-part, records-part, ends-part}
 use Rattle.desk.proofs.verdict.judge_passed.Statement.{statement}
 use Rattle.desk.proofs.verdict.judge_passed.Tie as tie
 
@@ -19,7 +19,7 @@ returns c =
     let k = start-at (made .before) in
     let b = k .args .sheet .now in (
       ends-part b (k .args .sizes) (k .pre .0) (made .judge-tables .ensures .0) (c .refusal-or-sizes .ensures),
-      participants-part b (made .judge-tables .ensures .1),
+      records-part b (made .judge-tables .ensures .1),
     )
 
 pub judge-passed-spec : {M : Type 1} → statement M

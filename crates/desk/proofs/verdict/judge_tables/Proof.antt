@@ -1,4 +1,4 @@
--- `verdict::judge_tables` meets its contract (O1, E5, N3): the refusal of the tables, or what the run over the parts of the sheet answers
+-- `verdict::judge_tables` meets its contract (O1, E5, S3): the refusal of the tables, or what the run over the parts of the sheet answers
 -- and leaves.
 -- Assumes nothing.
 use mathlib.Core.Path.{_≡_, sym, ap, _∙_}
@@ -10,6 +10,7 @@ use borrow.Author.Needs.{needs}
 use Rattle.sheet.specs.Bounds.{trailerSize}
 use Rattle.sheet.specs.Layout.{tablesOf}
 use Rattle.sheet.specs.Limits.{InLimits}
+use Rattle.sheet.specs.Sections.{Decoded}
 use Rattle.sheet.specs.Verdict.{accepted, tablesVerdict}
 use Rattle.answers.specs.declared.Sizes.{Sizes}
 use Rattle.answers.specs.declared.Answer.the-variants.{Accepted as AcceptedAnswer}
@@ -17,7 +18,7 @@ use Rattle.answers.specs.Outcomes.{outcomeOf, readOutcome}
 use Rattle.reading.proofs.Passing.{trailer-read}
 use Rattle.machine.specs.Runs.{SystemOf}
 use Rattle.desk.proofs.Parts.{sections-in}
-use Rattle.desk.proofs.verdict.Judging.{refused-ends, refused-participants, tables-stopped, tables-verdict, tables-told-accepted, known-sizes, known-told, read-limits, system-read, run-answered, run-participants}
+use Rattle.desk.proofs.verdict.Judging.{refused-ends, refused-records, tables-stopped, tables-verdict, tables-told-accepted, known-sizes, known-told, read-limits, system-read, run-answered, run-records}
 use Rattle.desk.proofs.verdict.judge_tables.Statement.{statement}
 use Rattle.desk.proofs.verdict.judge_tables.Tie as tie
 
@@ -29,18 +30,18 @@ sheet-at c = start-at c .args .sheet .now
 
 returns : tie.Need-returns
 returns c =
-    let r = c .before .before in
+    let r = c .before .before .before in
     let s = start-at r in
     let b = sheet-at r in
     let a = r .read-tables .result in
     let stop = tables-stopped b a (c .match .keys2) (r .read-tables .ensures .0) in
     let same = tables-verdict b (s .args .sizes) (s .pre .0) stop in
-    (refused-ends b a (tablesVerdict b accepted) stop same _ (s .pre .2), refused-participants b a (tablesVerdict b accepted) stop same _)
+    (refused-ends b a (tablesVerdict b accepted) stop same _ (s .pre .2), refused-records b a (tablesVerdict b accepted) stop same _)
 
 -- ---- none of 5 to 9 holds
 
 abbrev read-at : tie.After-enum-told → tie.After-read-tables
-read-at c = c .before .before .before
+read-at c = c .before .before .before .before
 
 abbrev sizes-at : tie.After-enum-told → Sizes
 sizes-at c = start-at (read-at c) .args .sizes
@@ -76,13 +77,17 @@ transitions-at c =
 step-section-requires : tie.Need-step-section-requires
 step-section-requires c κs = steps-at (c .before)
 
+-- the decoded records
+records-at : (c : tie.After-enum-told) → Decoded (tablesOf (take (sizes-at c .s) (sheet-at (read-at c))) (sizes-at c .n) (sizes-at c .m)) (sizes-at c .n)
+    (read-at c .read-tables .last .1 .1 .0)
+records-at c = read-at c .read-tables .ensures .1 (c .enum-told .given .1 ∙ ap AcceptedAnswer (same-at c))
+
 -- the system that the machine is handed
 system-at : (c : tie.After-enum-told) → SystemOf (tablesOf (take (sizes-at c .s) (sheet-at (read-at c))) (sizes-at c .n) (sizes-at c .m)) (sizes-at c)
     (read-at c .read-tables .last .1 .1 .0) (take (sizes-at c .s - sizes-at c .t) (drop (sizes-at c .t) (sheet-at (read-at c))))
 system-at c =
     let r = read-at c in
-    system-read (sheet-at r) (sizes-at c) (start-at r .pre .0) (sizes-at c) (told-at c) _
-    (r .read-tables .ensures .1 (c .enum-told .given .1 ∙ ap AcceptedAnswer (same-at c)))
+    system-read (sheet-at r) (sizes-at c) (start-at r .pre .0) (sizes-at c) (told-at c) _ (records-at c)
 
 part-start : tie.Need-part-run-from-start-start
 part-start c = transitions-at c .0
@@ -92,43 +97,42 @@ part-end c = transitions-at c .1
 
 run-from-start-requires : tie.Need-run-from-start-requires
 run-from-start-requires c κs =
-    let k = c .before .before .before .before .before in
+    let k = c .before .before .before .before in
     let s = start-at (read-at k) in
     let some = limits-at k .components-low in
     let told = tables-told-accepted (sheet-at (read-at k)) (sizes-at k) (s .pre .0) (sizes-at k) (told-at k) .1 in
-    (record { tables = _; given = system-at k }, omega arith, s .pre .2, s .pre .1)
+    (record { tables = _; given = system-at k }, omega arith, s .pre .2)
 
 -- ---- after the run
 
 abbrev known-at : tie.After-run-from-start → tie.After-enum-told
-known-at c = c .before .before .before .before .before .before
+known-at c = c .before .before .before .before .before
 
 returns-2 : tie.Need-returns-2
 returns-2 c =
-    let ran = c .before .before .before .before in
+    let ran = c .before .before in
     let k = known-at ran in
     let b = sheet-at (read-at k) in
     let passed = start-at (read-at k) .pre .0 in
-    let held = ran .run-from-start .last .1 .1 .1 .1 .1 .0 in
+    let held = ran .run-from-start .last .1 .1 .1 .1 .0 in
     let done = ran .run-from-start .ensures _ (system-at k) in (
-      run-answered b (sizes-at k) passed (sizes-at k) (told-at k) _ (ran .before .before .before .before .step-section .ensures)
-          (ran .run-from-start .result) held (done .0),
-      run-participants b (sizes-at k) passed (sizes-at k) (told-at k) _ (done .1),
+      run-answered b (sizes-at k) passed (sizes-at k) (told-at k) _ (ran .before .before .before .step-section .ensures)
+          (ran .run-from-start .result) held done,
+      run-records b (sizes-at k) passed (sizes-at k) (told-at k) _ (records-at k),
     )
 
 pub judge-tables-spec : {M : Type 1} → statement M
 judge-tables-spec =
     tie.close
     (tie.spec
-    (λ c. search needs)
     (λ c κs. search needs)
+    (λ c. search needs)
     (λ c. search needs)
     returns
     (λ c. let h = transitions-at c in search needs)
     part-start
     part-end
     step-section-requires
-    (λ c. search needs)
     run-from-start-requires
     (λ c. search needs)
     (λ c. search needs)
