@@ -1,7 +1,7 @@
 -- `records::decode_record` meets its contract (S3): the four entries stand in their places, and no entry of another record is touched.
 -- Assumes nothing.
 use native.Mathlib.Omega.{arith}
-use lib.ListN.{set, length-set}
+use lib.ListN.{length-set}
 use borrow.Author.Needs.{needs}
 use Rattle.reading.proofs.records.Decoding.{states-field, initial-field, alphabet-field, decoded-more}
 use Rattle.reading.proofs.records.decode_record.Statement.{statement}
