@@ -1,3 +1,4 @@
 pub mod Table
 pub mod Layout
 pub mod Filling
+pub mod Preparing

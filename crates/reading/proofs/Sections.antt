@@ -163,6 +163,6 @@ module _ {b : List ℕ} {z : Sizes} (r : SizesRead b z) where
       e ∙ ap (λ (l : List (List ℕ)). sevenOrEight (anyOf (transitionWrong (tables b)) (map transitionOf l)) (not (risingBytes l))) transition-bytes
 
   -- R9
-  pub count-told : {x : ℕ} → x ≡ length (flat (stepsIn (stepsPart b z))) → tooManyActions b ≡ ltb mostInSteps x
+  pub count-told : {x : Bool} → x ≡ ltb mostInSteps (length (flat (stepsIn (stepsPart b z)))) → tooManyActions b ≡ x
   unfolding tooManyActions
-  count-told e = ap (ltb mostInSteps) (sym (e ∙ ap (λ (l : List ℕ). length (flat l)) steps-part))
+  count-told e = sym (e ∙ ap (λ (l : List ℕ). ltb mostInSteps (length (flat l))) steps-part)

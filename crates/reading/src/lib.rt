@@ -5,9 +5,10 @@ mod transitions;
 
 ghost use mathlib.Core.Path.{_≡_};
 ghost use Prim.Native.Nat.{ℕ, _+_, _*_, _≤_};
+ghost use lib.Dec.{ltb};
 ghost use lib.ListN.{length, take};
 ghost use Rattle.systems.specs.Checking.{flat};
-ghost use Rattle.sheet.specs.Bounds.{recordSize, stepSize, trailerSize, mostComponents, mostSteps};
+ghost use Rattle.sheet.specs.Bounds.{recordSize, stepSize, trailerSize, mostComponents, mostSteps, mostInSteps};
 ghost use Rattle.sheet.specs.Layout.{tablesOf};
 ghost use Rattle.sheet.specs.Verdict.{accepted, trailerVerdict, tablesVerdict};
 ghost use Rattle.sheet.specs.Sections.{stepsIn, Decoded};
@@ -86,6 +87,17 @@ pub fn actions_in(section: &[u8]) -> u64
     sum
 }
 
+// 9: whether the steps of the section have more than 1,024 actions together. A step has at most 64, so 16 steps need not be counted.
+fn too_many(section: &[u8]) -> bool
+    requires { ⌜ length (now section) ≤ stepSize * mostSteps ⌝ }
+    ensures { λ r. ⌜ r ≡ ltb mostInSteps (length (flat (stepsIn (now (section .entry))))) ⌝ }
+{
+    if section.len() <= 128 {
+        return false;
+    }
+    1024 < actions_in(section)
+}
+
 // Refusals 5 to 9 of a sheet whose trailer passed: the first that holds, or the sizes. Of a sheet that passes, the decoded records are left
 // in `records`.
 pub fn read_tables(sheet: &[u8], sizes: Sizes, records: &mut [u64]) -> Answer
@@ -108,7 +120,7 @@ pub fn read_tables(sheet: &[u8], sizes: Sizes, records: &mut [u64]) -> Answer
     if refusal != 0 {
         return answers::refuse(refusal);
     }
-    if 1024 < actions_in(step_section(sheet, s)) {
+    if too_many(step_section(sheet, s)) {
         return answers::refuse(9);
     }
     Answer::Accepted(sizes)

@@ -61,10 +61,7 @@ pub fn decode_record(section: &[u8], j: usize, base: u64, records: &mut [u64]) -
     let states = numbers::wide(section[at]);
     let initial = numbers::number4(section, at + 4);
     let alphabet = numbers::number8(section, at + 8);
-    records[j] = states;
-    records[16 + j] = initial;
-    records[32 + j] = alphabet;
-    records[48 + j] = base;
+    decoded::put(records, j, states, initial, alphabet, base);
     base + states
 }
 

@@ -1,19 +1,31 @@
--- The steps of a step section: how many there are, each as it is read from its 8 bytes (S5), and their actions step by step (N2).
+-- The steps of a step section: how many there are, each as it is read from its 8 bytes (S5), and their actions step by step (N2), of which
+-- there are not too many.
 -- Decoded records, which are those of all tables with the same components (S3).
 -- Assumes nothing.
 use mathlib.Core.Path.{_≡_, refl, sym, ap, ap₂, _∙_}
-use mathlib.Core.List.{List, [], _++_}
+use mathlib.Core.List.{List, [], _∷_, _++_}
 use Prim.Native.Nat.{ℕ, zero, suc, _+_, _*_, _/_, _≤_, _<_}
 use native.Mathlib.Numerals.{add-one}
 use native.Mathlib.Omega.{arith}
-use lib.ListN.{length, getD, drop, drop-of-length-le}
+use lib.ListN.{length, getD, drop, length-append, drop-of-length-le}
 use lib.Seq.{drop-cons}
 use Rattle.sets.specs.Bits.{members}
+use Rattle.sets.proofs.Members.{members-few}
 use Rattle.systems.specs.Tables.{Tables}
 use Rattle.systems.specs.Checking.{flat}
+use Rattle.sheet.specs.Bounds.{mostInSteps}
 use Rattle.sheet.specs.Numbers.{field}
 use Rattle.sheet.specs.Sections.{stepsIn, baseOf, Decoded}
 use Rattle.sheet.proofs.Numbers.{numbers-length, numbers-at}
+
+-- a step has at most 64 actions (S5)
+flat-few : (xs : List ℕ) → length (flat xs) ≤ 64 * length xs
+flat-few [] = omega arith
+flat-few (x ∷ xs) =
+    let both = length-append (members x) (flat xs) in
+    let one = members-few x in
+    let others = flat-few xs in
+    omega arith
 
 module _ (b : List ℕ) where
   -- S7: a step for each 8 bytes
@@ -23,6 +35,13 @@ module _ (b : List ℕ) where
   -- S5: each step is read from its 8 bytes
   pub stepsIn-at : (k : ℕ) → k < length b / 8 → getD (stepsIn b) k 0 ≡ field (8 * k) 8 b
   stepsIn-at k h = numbers-at 8 (length b / 8) b k h
+
+  -- so 16 steps have no more actions than all steps may have together (R9)
+  pub short-few : length b ≤ 128 → length (flat (stepsIn b)) ≤ mostInSteps
+  short-few h =
+      let most = flat-few (stepsIn b) in
+      let count = stepsIn-length in
+      omega arith
 
   -- the actions from the step k on are its own and those of the steps behind it (N2)
   pub flat-step : (k x : ℕ) → k < length b / 8 → x ≡ field (8 * k) 8 b → flat (drop k (stepsIn b)) ≡ members x ++ flat (drop (k + 1) (stepsIn b))

@@ -2,6 +2,7 @@
 -- and the records decoded into an array.
 -- Assumes nothing.
 use mathlib.Core.Path.{_≡_}
+use mathlib.Core.Logic.{_≢_}
 use mathlib.Core.List.{List, map}
 use Prim.Native.Nat.{ℕ, zero, suc, _+_, _*_, _/_, _<_, _≤_}
 use lib.ListN.{length, getD}
@@ -44,6 +45,22 @@ alphabetAt l j = getD l (2 * mostComponents + j) 0
 
 abbrev pub baseAt : List ℕ → ℕ → ℕ
 baseAt l j = getD l (3 * mostComponents + j) 0
+
+-- the four entries of component k are the same in both arrays
+pub record SameEntries (old new : List ℕ) (k : ℕ) : Type 0 where
+  pub states-same : statesAt new k ≡ statesAt old k
+  pub initial-same : initialAt new k ≡ initialAt old k
+  pub alphabet-same : alphabetAt new k ≡ alphabetAt old k
+  pub base-same : baseAt new k ≡ baseAt old k
+
+-- the four entries of component j were put into the array, and those of the others were kept
+pub record EntriesPut (old : List ℕ) (j states initial alphabet base : ℕ) (new : List ℕ) : Type 0 where
+  pub size : length new ≡ length old
+  pub states-put : statesAt new j ≡ states
+  pub initial-put : initialAt new j ≡ initial
+  pub alphabet-put : alphabetAt new j ≡ alphabet
+  pub base-put : baseAt new j ≡ base
+  pub kept : (k : ℕ) → k < mostComponents → k ≢ j → SameEntries old new k
 
 -- the decoded records of the n components of T (S3)
 pub record Decoded (T : Tables) (n : ℕ) (l : List ℕ) : Type 0 where

@@ -1,9 +1,21 @@
-// The decoded records of a sheet's components: an array that the reader fills, and whoever runs the sheet looks things up in.
+// The decoded records of a sheet's components: an array that the reader fills, and whoever runs the sheet looks things up in. Where its entries stand is
+// known here alone.
 ghost use mathlib.Core.Path.{_≡_};
 ghost use Prim.Native.Nat.{_*_, _<_};
 ghost use lib.ListN.{length, take, drop};
 ghost use Rattle.sheet.specs.Bounds.{mostComponents};
-ghost use Rattle.sheet.specs.Sections.{statesAt, initialAt, alphabetAt, baseAt};
+ghost use Rattle.sheet.specs.Sections.{statesAt, initialAt, alphabetAt, baseAt, EntriesPut};
+
+// Puts the four entries of component j into their places.
+pub fn put(records: &mut [u64], j: usize, states: u64, initial: u64, alphabet: u64, base: u64)
+    requires { ⌜ (length (now records) ≡ 4 * mostComponents) × (j < mostComponents) ⌝ }
+    ensures { λ _. ⌜ EntriesPut (now (records .entry)) j states initial alphabet base (now (records .exit)) ⌝ }
+{
+    records[j] = states;
+    records[16 + j] = initial;
+    records[32 + j] = alphabet;
+    records[48 + j] = base;
+}
 
 // How many states component j has.
 pub fn states(records: &[u64], j: usize) -> usize

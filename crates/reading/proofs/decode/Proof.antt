@@ -1,7 +1,7 @@
 -- `reading::decode` meets its contract (S3). The loop's invariant: the records passed are decoded.
 -- The measure is how many records are left. Assumes nothing.
 use mathlib.Core.Path.{_≡_}
-use Prim.Native.Nat.{ℕ, _-_, _≤_}
+use Prim.Native.Nat.{_-_, _≤_}
 use native.Mathlib.Omega.{arith}
 use borrow.Author.Needs.{needs}
 use Rattle.reading.specs.records.Decoding.{DecodedUpTo}

@@ -9,7 +9,6 @@ use native.Mathlib.Omega.{arith}
 use borrow.Author.Needs.{needs}
 use lib.Dec.{ltb}
 use lib.ListN.{length}
-use Rattle.sets.proofs.Bools.{ltb-true, ltb-false}
 use Rattle.systems.specs.Checking.{flat}
 use Rattle.sheet.specs.Bounds.{mostInSteps}
 use Rattle.sheet.specs.Layout.{tables}
@@ -138,19 +137,19 @@ transitions-passed c =
 
 -- ---- 9
 
-abbrev rising-at : tie.After-actions-in → tie.Else3
+abbrev rising-at : tie.After-too-many → tie.Else3
 rising-at c = c .before .before
 
-too-many : (c : tie.After-actions-in) → tooManyActions (sheet-at (fit-at (rising-at c .before))) ≡ ltb mostInSteps (c .actions-in .result)
-too-many c = count-told (read-at (fit-at (rising-at c .before)))
-    (c .actions-in .ensures ∙ ap (λ (l : List ℕ). length (flat (stepsIn l))) (c .before .step-section .ensures))
+counted : (c : tie.After-too-many) → tooManyActions (sheet-at (fit-at (rising-at c .before))) ≡ c .too-many .result
+counted c = count-told (read-at (fit-at (rising-at c .before)))
+    (c .too-many .ensures ∙ ap (λ (l : List ℕ). ltb mostInSteps (length (flat (stepsIn l)))) (c .before .step-section .ensures))
 
 returns-4 : tie.Need-returns-4
 returns-4 c =
     let k = c .before .before in
     let o = rising-at k in
     let u = used-at (o .before) in
-    let e = too-many k ∙ ltb-true mostInSteps (k .actions-in .result) .1 (c .before .if4 .taken) in
+    let e = counted k ∙ c .before .if4 .taken in
     rw (records-passed (right-at (u .before)), actions-passed u, transitions-passed o, e) (stopped (c .refuse4 .ensures))
 
 returns-5 : tie.Need-returns-5
@@ -160,7 +159,7 @@ returns-5 c =
     let u = used-at (o .before) in
     let d = decoded-at (u .before) in
     let s = filled-at d in
-    let e = too-many k ∙ ltb-false mostInSteps (k .actions-in .result) .1 (c .if4 .left) in
+    let e = counted k ∙ c .if4 .left in
     rw (records-passed (right-at (u .before)), actions-passed u, transitions-passed o, e) (
       s .pre .0 ∙ ap (readOutcome (sheet-at s)) (trailer-then (sheet-at s) (s .args .sizes) (s .pre .0) accepted),
       λ f. decoded-part (read-at s) (d .decode .ensures _),

@@ -1,7 +1,5 @@
--- `records::decode_record` meets its contract (S3): the four entries stand in their places, and no entry of another record is touched.
+-- `records::decode_record` meets its contract (S3): the four entries are read from the record, and put into their places.
 -- Assumes nothing.
-use native.Mathlib.Omega.{arith}
-use lib.ListN.{set, length-set}
 use borrow.Author.Needs.{needs}
 use Rattle.reading.proofs.records.Decoding.{states-field, initial-field, alphabet-field, decoded-more}
 use Rattle.reading.proofs.records.decode_record.Statement.{statement}
@@ -10,28 +8,21 @@ use Rattle.reading.proofs.records.decode_record.Tie as tie
 abbrev start : tie.After-number8 → tie.Start
 start c = c .before .before .before .before .before .before
 
-slice-write-records-2 : tie.Need-slice-write-records-2
-slice-write-records-2 c = let z = start c .pre .2 .first .size in simp length-set (omega arith)
-
-slice-write-records-3 : tie.Need-slice-write-records-3
-slice-write-records-3 c = let z = start c .pre .2 .first .size in simp length-set (omega arith)
-
-slice-write-records-4 : tie.Need-slice-write-records-4
-slice-write-records-4 c = let z = start c .pre .2 .first .size in simp length-set (omega arith)
-
 returns : tie.Need-returns
 returns c =
-    let s = start c in
+    let put = c .before .before in
+    let read = put .before .before in
+    let s = start read in
     let a = s .args in
     let b = a .section .now in
-    let states = c .before .before .wide in
-    let initial = c .before .number4 in
-    let alphabet = c .number8 in
+    let states = read .before .before .wide in
+    let initial = read .before .number4 in
+    let alphabet = read .number8 in
     decoded-more b (a .records .now) (a .j) (states .result) (initial .result) (alphabet .result) (a .base) (s .pre .0)
     (states-field b (a .j) (states .result) (states .ensures .0))
     (initial-field b (a .j) (initial .result) (initial .ensures .0))
     (alphabet-field b (a .j) (alphabet .result) (alphabet .ensures))
-    (states .ensures .1) (s .pre .2)
+    (states .ensures .1) (s .pre .2) (put .put .ensures)
 
 pub decode-record-spec : {M : Type 1} → statement M
 decode-record-spec =
@@ -44,17 +35,7 @@ decode-record-spec =
     (λ c κs. search needs)
     (λ c. search needs)
     (λ c κs. search needs)
-    (λ c. search needs)
-    (λ c. search needs)
-    (λ c. search needs)
-    (λ c. search needs)
-    slice-write-records-2
-    (λ c. search needs)
-    (λ c. search needs)
-    slice-write-records-3
-    (λ c. search needs)
-    (λ c. search needs)
-    slice-write-records-4
+    (λ c κs. search needs)
     (λ c. search needs)
     (λ c. search needs)
     returns)
