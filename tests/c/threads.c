@@ -192,17 +192,17 @@ static const struct {
     size_t kib[2];
     const struct given *given;
 } calls[] = {{"check", check, {25, 83}, sheets},
-             {"end_sets", end_sets, {26, 84}, sheets},
-             {"process", process, {25, 84}, sheets},
+             {"end_sets", end_sets, {25, 83}, sheets},
+             {"process", process, {25, 83}, sheets},
              {"figure", figure, {25, 84}, sheets},
              {"stuck", stuck, {26, 84}, sheets},
              {"restate", restate, {25, 84}, sheets},
-             {"report", report, {50, 109}, sheets},
-             {"same_work", same_work, {42, 100}, sheets},
-             {"winner", winner, {26, 84}, sheets},
-             {"leaner", leaner, {26, 84}, sheets},
+             {"report", report, {50, 108}, sheets},
+             {"same_work", same_work, {41, 99}, sheets},
+             {"winner", winner, {25, 83}, sheets},
+             {"leaner", leaner, {25, 83}, sheets},
              {"rows", rows, {3, 3}, products},
-             {"columns", columns, {35, 93}, sheets},
+             {"columns", columns, {34, 92}, sheets},
              {"version", version, {1, 1}, sheets}};
 #define CALLS (sizeof calls / sizeof calls[0])
 
