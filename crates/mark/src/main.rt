@@ -2,6 +2,7 @@
 // one line on standard error, and there is no answer.
 //
 // The buffer is longer than any sheet, so longer input is refused for its length whatever follows.
+#![tactic(auto)]
 mod stream;
 
 ghost use Rattle.std.specs.Prelude.{◌≡◌, ◌≤◌, length, take};

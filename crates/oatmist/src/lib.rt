@@ -1,5 +1,6 @@
 // The face of the desk: every public call, and the same calls for C and for languages that call C. For C a slice is passed as a pointer and
 // a length, and the values of an answer go to an array that the caller lends (include/oatmist.h).
+#![tactic(auto)]
 mod convention;
 
 ghost use Rattle.oatmist.specs.Calls.{CheckForC, EndSetsForC, ProcessForC, FigureForC, StuckForC, RestateForC, ReportForC};

@@ -3,7 +3,7 @@
 -- Assumes nothing.
 use mathlib.Core.Path.{◌≡◌, refl, sym, ◌∙◌}
 use mathlib.Core.Bool.{Bool, true, false, ◌&&◌, ◌||◌, not, true≢false, false≢true}
-use mathlib.Core.Bool.{and-eq-true_iff, or_true as or-true_right, and_false as and-false-right}
+use mathlib.Core.Bool.{and-eq-true_iff, or-true as or-true_right, and-false as and-false-right}
 use mathlib.Core.Logic.{◌↔◌, ◌≢◌, ◌⊎◌, inl, inr}
 use Prim.Native.Nat.{ℕ, ◌≤◌, ◌<◌}
 use lib.Dec.{leb, ltb, eqb}
@@ -70,22 +70,22 @@ and_left_comm false b c = sym (and-false-right b)
 -- ---- tests of numbers
 
 pub leb_true : (m n : ℕ) → (leb m n ≡ true) ↔ (m ≤ n)
-leb_true m n = (Tests.leb_true m n, Tests.le-leb m n)
+leb_true m n = (Tests.leb-true m n, Tests.le-leb m n)
 
 pub leb_false : (m n : ℕ) → (leb m n ≡ false) ↔ (n < m)
-leb_false m n = (Tests.leb_false m n, Tests.lt-leb m n)
+leb_false m n = (Tests.leb-false m n, Tests.lt-leb m n)
 
 pub ltb_true : (m n : ℕ) → (ltb m n ≡ true) ↔ (m < n)
-ltb_true m n = (Tests.ltb_true m n, Tests.lt-ltb m n)
+ltb_true m n = (Tests.ltb-true m n, Tests.lt-ltb m n)
 
 pub ltb_false : (m n : ℕ) → (ltb m n ≡ false) ↔ (n ≤ m)
-ltb_false m n = (Tests.ltb_false m n, Tests.le-ltb m n)
+ltb_false m n = (Tests.ltb-false m n, Tests.le-ltb m n)
 
 pub eqb_true : (m n : ℕ) → (eqb m n ≡ true) ↔ (m ≡ n)
-eqb_true m n = (Tests.eqb_true m n, Tests.eq-eqb m n)
+eqb_true m n = (Tests.eqb-true m n, Tests.eq-eqb m n)
 
 pub eqb_false : (m n : ℕ) → (eqb m n ≡ false) ↔ (m ≢ n)
-eqb_false m n = (Tests.eqb_false m n, Tests.ne_eqb m n)
+eqb_false m n = (Tests.eqb-false m n, Tests.ne_eqb m n)
 
 pub eqb_self : (n : ℕ) → eqb n n ≡ true
 eqb_self n = Tests.eq-eqb n n refl

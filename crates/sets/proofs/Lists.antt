@@ -20,6 +20,7 @@ module _ {ℓ} {A : Type ℓ} where
   -- ---- some
 
   pub any_of_intro : (p : A → Bool) (l : List A) {x : A} → Memᴰ x l → p x ≡ true → any_of p l ≡ true
+  any_of_intro p [] x4 h = elim x4 [ ]
   any_of_intro p (y ∷ l) (Memᴰ.head e) h = (or_true (p y) (any_of p l)).1 (inl (ap p (sym e) ∙ h))
   any_of_intro p (y ∷ l) (Memᴰ.tail m) h = (or_true (p y) (any_of p l)).1 (inr (any_of_intro p l m h))
 
@@ -62,6 +63,7 @@ module _ {ℓ} {A : Type ℓ} where
   all_of_intro p (y ∷ l) h = (and_true (p y) (all_of p l)).1 (h y (Memᴰ.head refl), all_of_intro p l (λ x m. h x (Memᴰ.tail m)))
 
   pub all_of_elim : (p : A → Bool) (l : List A) → all_of p l ≡ true → (x : A) → Memᴰ x l → p x ≡ true
+  all_of_elim p [] h x x4 = elim x4 [ ]
   all_of_elim p (y ∷ l) h x (Memᴰ.head e) = ap p e ∙ ((and_true (p y) (all_of p l)).0 h).0
   all_of_elim p (y ∷ l) h x (Memᴰ.tail m) = all_of_elim p l ((and_true (p y) (all_of p l)).0 h).1 x m
 
@@ -81,6 +83,7 @@ module _ {ℓ} {A : Type ℓ} where
       go rest (inr h) = let r = rest h in (r.0, Memᴰ.tail r.1, r.2)
 
   into_append_all : (ls : List (List A)) {l : List A} {x : A} → Memᴰ l ls → Memᴰ x l → Memᴰ x (append_all ls)
+  into_append_all [] {l = l} {x = x} x4 m = elim x4 [ ]
   into_append_all (k ∷ ls) {x = x} (Memᴰ.head e) m = Memᴰ.append_left (append_all ls) (subst (λ (r : List A). Memᴰ x r) e m)
   into_append_all (k ∷ ls) (Memᴰ.tail h) m = Memᴰ.append_right k (into_append_all ls h m)
 
@@ -130,6 +133,7 @@ module _ {ℓ} {A : Type ℓ} where
 
   -- what holds of each entry holds of each element, and the other way
   from_entries : (P : A → Type ℓ) (l : List A) (d : A) → ((i : ℕ) → i < length l → P (get_or l i d)) → (x : A) → Memᴰ x l → P x
+  from_entries P [] d h x x4 = elim x4 [ ]
   from_entries P (y ∷ l) d h x (Memᴰ.head e) = subst P (sym e) (h 0 (omega arith))
   from_entries P (y ∷ l) d h x (Memᴰ.tail m) = from_entries P l d (λ i b. h (suc i) (omega arith)) x m
 
@@ -286,6 +290,7 @@ chosen {A} x B n h = (λ j. (value j).0, λ j. (value j).1)
 
 -- every element of a list that rises above i is above i
 pub above_mem : (i : ℕ) (l : List ℕ) → RisingAbove i l → {j : ℕ} → Memᴰ j l → i < j
+above_mem i [] r {j = j} x'' = elim x'' [ ]
 above_mem i (x ∷ l) r (Memᴰ.head e) = let h = r.0 in omega arith
 above_mem i (x ∷ l) r (Memᴰ.tail m) = let h = r.0 in let t = above_mem x l r.1 m in omega arith
 
@@ -355,6 +360,7 @@ last_or_below i k l = eq-or-lt_of_le (omega arith)
 -- G4: entry j of what f makes of the numbers from i on
 pub map_upward_at : (f : ℕ → List ℕ) (i k j : ℕ) → j < k → get_or (map f (upward i k)) j [] ≡ f (i + j)
 unfolding upward
+map_upward_at f i zero j h = elim h [ ]
 map_upward_at f i (suc k) zero h = ap f (omega arith)
 map_upward_at f i (suc k) (suc j) h = map_upward_at f (suc i) k j (omega arith) ∙ ap f (omega arith)
 

@@ -239,6 +239,7 @@ from_set_of (j ∷ l) i h = go (from_set_of l i) ((or_true (eqb j i) (member (se
     go rest (inr e) = Memᴰ.tail (rest e)
 
 into_set_of : (l : List ℕ) (i : ℕ) → Memᴰ i l → member (set_of l) i ≡ true
+into_set_of [] i x' = elim x' [ ]
 into_set_of (j ∷ l) i (Memᴰ.head e) =
     member_with j (set_of l) i ∙ (or_true (eqb j i) (member (set_of l) i)).1 (inl ((eqb_true j i).1 (sym e)))
 into_set_of (j ∷ l) i (Memᴰ.tail m) =

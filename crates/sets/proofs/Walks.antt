@@ -126,6 +126,7 @@ turns_once x taken z w = rising_distinct taken (turns_rising x taken z w)
 
 -- what is left lies above what is taken
 pub turns_above : (x : ℕ) (taken : List ℕ) (z : ℕ) → Turns x taken z → (i : ℕ) → Memᴰ i taken → (j : ℕ) → member z j ≡ true → i < j
+turns_above x [] z _ i x6 j n = elim x6 [ ]
 turns_above x (a ∷ taken) z (y, t, w) i (Memᴰ.head e) j n =
     subst (λ (k : ℕ). k < j) (sym e) (left_above t j ((turns_split y taken z w j).1 (inr n)))
 turns_above x (a ∷ taken) z (y, t, w) i (Memᴰ.tail m) j n = turns_above y taken z w i m j n

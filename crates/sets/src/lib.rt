@@ -1,4 +1,6 @@
 // Sets of numbers below 64, one bit for each: the tests and the walk over the elements that everything above uses.
+#![tactic(auto)]
+
 ghost use Rattle.std.specs.Prelude.{◌≡◌, ◌≢◌, ◌||◌, ◌<◌, ◌≤◌, ◌^◌, eqb, leb, length};
 ghost use Rattle.sets.specs.Bits.{member, members, with};
 ghost use Rattle.sets.specs.Walk.{Takes};

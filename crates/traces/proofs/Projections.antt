@@ -46,6 +46,7 @@ from_projection p (b ∷ w) {a} m = go (from_projection p w) (true_or_false (p b
     go rest (inr h) = let r = rest (rw (keep_false (p b) b (projection p w) h) at m) in (Memᴰ.tail r.0, r.1)
 
 into_projection : (p : ℕ → Bool) (w : List ℕ) {a : ℕ} → Memᴰ a w → p a ≡ true → Memᴰ a (projection p w)
+into_projection p [] {a = a} x'' h = elim x'' [ ]
 into_projection p (b ∷ w) (Memᴰ.head e) h = rw (keep_true (p b) b (projection p w) (ap p (sym e) ∙ h)) (Memᴰ.head e)
 into_projection p (b ∷ w) (Memᴰ.tail m) h = keep_tail (p b) b (projection p w) (into_projection p w m h)
 

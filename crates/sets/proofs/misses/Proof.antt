@@ -39,20 +39,20 @@ shifted_some x k =
 none_below : (x : ℕ) → x ≢ 0 → x < 2 ^ 64 → (k : ℕ) → k ≡ 64 → false ≡ (eqb x 0 || leb (2 ^ k) x)
 none_below x n l k e = sym (rw ((eqb_false x 0).1 n, e) ((leb_false (2 ^ 64) x).1 l))
 
-returns : tie.Need-returns
-returns c = rw c.if1.true
+returns : tie.Need-returns-then-x-eq0
+returns c = rw c.if-x-eq0.true
 
-returns-2 : tie.Need-returns-2
+returns-2 : tie.Need-returns-then-k-eq64
 returns-2 c =
-    none_below c.before.before.args.x c.before.if1.false c.before.before.ranges.x.fits c.before.before.args.k c.if2.true
+    none_below c.before.before.args.x c.before.if-x-eq0.false c.before.before.ranges.x.fits c.before.before.args.k c.if-k-eq64.true
 
-shr-result : tie.Need-overflow-shr-result
-shr-result c = let f = c.before.before.requires in let l = c.if2.false in search rules
+shr-result : tie.Need-overflow_shr-result
+shr-result c = let f = c.before.before.requires in let l = c.if-k-eq64.false in search rules
 
-returns-3 : tie.Need-returns-3
+returns-3 : tie.Need-returns
 returns-3 c =
     shifted_some c.before.before.args.x c.before.before.args.k
-    ∙ sym (rw ((eqb_false c.before.before.args.x 0).1 c.before.if1.false))
+    ∙ sym (rw ((eqb_false c.before.before.args.x 0).1 c.before.if-x-eq0.false))
 
 pub misses_spec : {M : Type 1} → statement M
 misses_spec = tie.close (tie.spec returns returns-2 shr-result returns-3)
