@@ -21,6 +21,7 @@ use Rattle.sheet.proofs.LargeSheets.{large_length, large_accepted}
 
 -- two lists that two maps give are equal: so are the images of each element
 images : {A B : Type 0} (f g : A → B) (l : List A) → map f l ≡ map g l → (x : A) → Memᴰ x l → f x ≡ g x
+images {A = A} {B = B} f g mathlib.Core.List.[] e x x4 = elim x4 [ ]
 images f g (y ∷ l) e x (Memᴰ.head h) = let first : f y ≡ g y = cc in rw h first
 images f g (y ∷ l) e x (Memᴰ.tail m) = let rest : map f l ≡ map g l = cc in images f g l rest x m
 

@@ -69,6 +69,7 @@ steps_count : (s : ℕ) → length {A = ℕ} (replicate s 1) ≡ s
 steps_count s = length-replicate s 1
 
 steps_one : (s : ℕ) {x : ℕ} → Memᴰ x (replicate s 1) → x ≡ 1
+steps_one zero x3 = elim x3 [ ]
 steps_one (suc s) (Memᴰ.head e) = e
 steps_one (suc s) (Memᴰ.tail m) = steps_one s m
 

@@ -136,10 +136,12 @@ parts_of_append_all size (l ∷ ls) rest h =
     ∙ ap (λ (r : List (List ℕ)). l ∷ r) (parts_of_append_all size ls rest (λ k m. h k (Memᴰ.tail m)))
 
 pub part_bytes : (size k : ℕ) (b : List ℕ) → AreBytes b → (p : List ℕ) → Memᴰ p (parts size k b) → AreBytes p
+part_bytes size zero b h p x'' = elim x'' [ ]
 part_bytes size (suc k) b h p (Memᴰ.head e) = subst AreBytes (sym e) (bytes_take size b h)
 part_bytes size (suc k) b h p (Memᴰ.tail m) = part_bytes size k (drop size b) (bytes_drop size b h) p m
 
 pub part_length : (size k : ℕ) (b : List ℕ) → size * k ≤ length b → (p : List ℕ) → Memᴰ p (parts size k b) → length p ≡ size
+part_length size zero b h p x'' = elim x'' [ ]
 part_length size (suc k) b h p (Memᴰ.head e) = ap length e ∙ length-take-le size b (omega (arith, mul-suc size k))
 part_length size (suc k) b h p (Memᴰ.tail m) = part_length size k (drop size b) (rw length-drop (omega (arith, mul-suc size k))) p m
 

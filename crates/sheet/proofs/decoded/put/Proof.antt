@@ -7,13 +7,13 @@ use Rattle.sheet.proofs.decoded.Entries.{entries_stored}
 use Rattle.sheet.proofs.decoded.put.Statement.{statement}
 use Rattle.sheet.proofs.decoded.put.Tie as tie
 
-slice-write-records-2 : tie.Need-slice-write-records-2
+slice-write-records-2 : tie.Need-bounds-records-j-2
 slice-write-records-2 c = let z = c.requires.0 in simp length-set (omega arith)
 
-slice-write-records-3 : tie.Need-slice-write-records-3
+slice-write-records-3 : tie.Need-bounds-records-j-3
 slice-write-records-3 c = let z = c.requires.0 in simp length-set (omega arith)
 
-slice-write-records-4 : tie.Need-slice-write-records-4
+slice-write-records-4 : tie.Need-bounds-records-j-4
 slice-write-records-4 c = let z = c.requires.0 in simp length-set (omega arith)
 
 returns : tie.Need-returns
