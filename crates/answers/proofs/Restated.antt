@@ -150,7 +150,7 @@ module _ (b : List ℕ) (acc : Accepted b) where
 
   pub restated_step_count : step_count (restated b) ≡ length (normal (tables b) (steps b))
   unfolding restated
-  restated_step_count = restated_reads.step_count ∙ ap length (restated_normal b)
+  restated_step_count = restated_reads.step_count_fact ∙ ap length (restated_normal b)
 
   restated_length : length (restated b) ≡ steps_at b + 8 * length (normal (tables b) (steps b)) + 10
   unfolding restated

@@ -1,5 +1,6 @@
 // What the calls answer: one enum for all of them. What each call is to answer stands in specs/.
 #![tactic(auto)]
+
 ghost use Rattle.std.specs.Prelude.{◌≡◌};
 ghost use Rattle.answers.specs.declared.Answer.TheVariants.{Refused};
 ghost use Rattle.answers.specs.Outcomes.{bit};

@@ -32,6 +32,9 @@ use Rattle.dependence.proofs.participants.Entering.{participants_action}
 -- ---- by alphabets: two actions of a step in one of them (document 01, refusal 11)
 
 short_same : (l : List ℕ) → length l ≤ 1 → {a b : ℕ} → Memᴰ a l → Memᴰ b l → a ≡ b
+short_same (x ∷ []) h {a = a} {b = b} (mathlib.Core.List.Memᴰ.head p) (mathlib.Core.List.Memᴰ.tail x19) = elim x19 [ ]
+short_same (x ∷ []) h {a = a} {b = b} (mathlib.Core.List.Memᴰ.tail x18) n = elim x18 [ ]
+short_same [] h {a = a} {b = b} m n = elim m [ ]
 short_same (x ∷ []) h (Memᴰ.head p) (Memᴰ.head q) = p ∙ sym q
 short_same (x ∷ y ∷ l) h m n = absurd (omega arith)
 

@@ -1,5 +1,6 @@
 // Writing a sheet section after section: each writer lends the rest of the output, from its middle on, to the writer of the next.
 #![tactic(auto)]
+
 ghost use Rattle.std.specs.Prelude.{◌≡◌, List, [], ◌∷◌, ◌++◌, ℕ, ◌+◌, ◌*◌, ◌<◌, ◌≤◌, length, take};
 ghost use Rattle.sheet.specs.Bounds.{record_size, transition_size, step_size, trailer_size, most_components, most_transitions, most_steps};
 ghost use Rattle.sheet.specs.Numbers.{bytes};

@@ -11,36 +11,36 @@ use Rattle.dependence.proofs.participants.Entering.{entered_none, entered_more}
 use Rattle.dependence.proofs.participants.enter.Statement.{statement}
 use Rattle.dependence.proofs.participants.enter.Tie as tie
 
-abbrev invariant-loop : tie.invariant-loop
+abbrev invariant-loop : tie.invariant-loop-left
 invariant-loop alphabet j found₀ left₀ found left =
     (length found ≡ 64) × ((after : List ℕ) → ComponentEntered left j found after → ComponentEntered alphabet j found₀ after)
 
-abbrev decreases-loop : tie.decreases-loop
+abbrev decreases-loop : tie.decreases-loop-left
 decreases-loop alphabet j found₀ left₀ found left = left
 
-loop-holds : tie.Need-loop-init invariant-loop decreases-loop
+loop-holds : tie.Need-loop-left-init invariant-loop decreases-loop
 loop-holds c = (search rules, λ after E. E)
 
-slice-read-with : tie.Need-slice-read-with invariant-loop decreases-loop
-slice-read-with c = let b = c.before.take-lowest.ensures.below in search rules
+slice-read-with : tie.Need-bounds-found-a invariant-loop decreases-loop
+slice-read-with c = let b = c.before.take_lowest-a.ensures.below in search rules
 
-slice-write-found : tie.Need-slice-write-found invariant-loop decreases-loop
-slice-write-found c = let b = c.before.before.take-lowest.ensures.below in search rules
+slice-write-found : tie.Need-bounds-found-a-in-loop-left invariant-loop decreases-loop
+slice-write-found c = let b = c.before.before.take_lowest-a.ensures.below in search rules
 
-loop-less : tie.Need-loop-smaller invariant-loop decreases-loop
-loop-less c = left_less c.before.before.take-lowest.ensures
+loop-less : tie.Need-loop-left-smaller invariant-loop decreases-loop
+loop-less c = left_less c.before.before.take_lowest-a.ensures
 
-loop-again : tie.Need-loop-preserved invariant-loop decreases-loop
+loop-again : tie.Need-loop-left-preserved invariant-loop decreases-loop
 loop-again c =
-    let turn = c.before.before.before.before.before.loop in
-    let took = c.before.before.take-lowest in (
+    let turn = c.before.before.before.before.before.loop-left in
+    let took = c.before.before.take_lowest-a in (
       length-set turn.found took.result c.with.result ∙ turn.invariant.0,
-      λ after E. turn.invariant.1 after (entered_more turn.left took.result took.new.0 _ turn.found after turn.invariant.0
+      λ after E. turn.invariant.1 after (entered_more turn.left took.result took.new.left _ turn.found after turn.invariant.0
           took.ensures c.with.result c.with.ensures E),
     )
 
 returns : tie.Need-returns invariant-loop decreases-loop
-returns c = c.before.loop.invariant.1 _ (entered_none _ _ _ c.loop-test.false c.before.loop.invariant.0)
+returns c = c.before.loop-left.invariant.1 _ (entered_none _ _ _ c.loop-left-test.false c.before.loop-left.invariant.0)
 
 pub enter_spec : {M : Type 1} → statement M
 enter_spec =

@@ -9,29 +9,29 @@ use Rattle.dependence.proofs.participants.Entering.{EnteredBelow, below_zero, be
 use Rattle.dependence.proofs.participants.participants_of.Statement.{statement}
 use Rattle.dependence.proofs.participants.participants_of.Tie as tie
 
-abbrev invariant-loop : tie.invariant-loop
+abbrev invariant-loop : tie.invariant-loop-j
 invariant-loop alphabets n found₀ j₀ found j = (j ≤ n) × EnteredBelow alphabets j found
 
-abbrev decreases-loop : tie.decreases-loop
+abbrev decreases-loop : tie.decreases-loop-j
 decreases-loop alphabets n found₀ j₀ found j = n - j
 
-loop-holds : tie.Need-loop-init invariant-loop decreases-loop
+loop-holds : tie.Need-loop-j-init invariant-loop decreases-loop
 loop-holds c = (search rules, below_zero _ _ c.before.before.requires.2)
 
 enter-requires : tie.Need-enter-requires invariant-loop decreases-loop
-enter-requires c κs = (c.before.before.before.loop.invariant.1.size, omega arith)
+enter-requires c κs = (c.before.before.before.loop-j.invariant.1.size, omega arith)
 
-loop-again : tie.Need-loop-preserved invariant-loop decreases-loop
+loop-again : tie.Need-loop-j-preserved invariant-loop decreases-loop
 loop-again c =
-    let turn = c.before.before.before.before.before.before.loop in
+    let turn = c.before.before.before.before.before.before.loop-j in
     (omega arith, below_more _ turn.j _ (omega arith) turn.found _ turn.invariant.1 c.before.before.enter.ensures)
 
-same_length : tie.Need-same-length invariant-loop decreases-loop
-same_length c = c.before.loop.invariant.1.size ∙ sym (ap length c.before.before.before.before.requires.2)
+same_length : tie.Need-shape_of-found invariant-loop decreases-loop
+same_length c = c.before.loop-j.invariant.1.size ∙ sym (ap length c.before.before.before.before.requires.2)
 
 returns : tie.Need-returns invariant-loop decreases-loop
 returns c =
-    let turn = c.before.loop in
+    let turn = c.before.loop-j in
     let start = c.before.before.before.before.args in
     let all : turn.j ≡ start.n = omega arith in
     let made : EnteredBelow start.alphabets.now start.n turn.found =

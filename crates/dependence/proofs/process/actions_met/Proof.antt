@@ -9,24 +9,24 @@ use Rattle.dependence.proofs.process.Meeting.{union_none, union_more}
 use Rattle.dependence.proofs.process.actions_met.Statement.{statement}
 use Rattle.dependence.proofs.process.actions_met.Tie as tie
 
-abbrev invariant-loop : tie.invariant-loop
+abbrev invariant-loop : tie.invariant-loop-j
 invariant-loop alphabets n set met₀ j₀ met j = (j ≤ n) × UnionMet alphabets j set met
 
-abbrev decreases-loop : tie.decreases-loop
+abbrev decreases-loop : tie.decreases-loop-j
 decreases-loop alphabets n set met₀ j₀ met j = n - j
 
-loop-holds : tie.Need-loop-init invariant-loop decreases-loop
+loop-holds : tie.Need-loop-j-init invariant-loop decreases-loop
 loop-holds c = (omega arith, union_none c.before.args.alphabets.now c.before.args.set)
 
-loop-again : tie.Need-loop-preserved invariant-loop decreases-loop
+loop-again : tie.Need-loop-j-preserved invariant-loop decreases-loop
 loop-again c =
-    let l = c.before.before.before.loop in
+    let l = c.before.before.before.loop-j in
     let a = c.before.before.before.before.before.args in
-    (omega arith, union_more a.alphabets.now a.set l.j l.met c.alphabet-met.result l.invariant.1 c.alphabet-met.ensures)
+    (omega arith, union_more a.alphabets.now a.set l.j l.met c.alphabet_met-met.result l.invariant.1 c.alphabet_met-met.ensures)
 
 returns : tie.Need-returns invariant-loop decreases-loop
 returns c =
-    let l = c.before.loop in
+    let l = c.before.loop-j in
     let start = c.before.before.before in
     let a = start.args in
     let all : l.j ≡ a.n = omega arith in

@@ -12,8 +12,8 @@ returns c =
     let start = c.before.before in
     let a = start.args in
     λ T order A known.
-    follows_union (dependent T) a.before a.step c.actions-met.result start.ranges.step.fits
-    (λ b m. c.actions-met.ensures T order A b (known b m))
+    follows_union (dependent T) a.before a.step c.actions_met-met.result start.ranges.step.fits
+    (λ b m. c.actions_met-met.ensures T order A b (known b m))
 
 pub follows_step_spec : {M : Type 1} → statement M
 follows_step_spec = tie.close (tie.spec (λ c κs. search rules) returns)
