@@ -6,7 +6,7 @@ ghost use Rattle.answers.specs.declared.Answer.TheVariants.{Refused};
 ghost use Rattle.answers.specs.Outcomes.{bit};
 
 // The numbers that the trailer of a sheet tells: n components, m actions, where the transitions begin, and where the steps begin.
-#[derive(Drop)]
+#[derive(Clone, Copy)]
 pub struct Sizes {
     pub n: usize,
     pub m: usize,
@@ -15,7 +15,7 @@ pub struct Sizes {
 }
 
 // The sizes of an accepted sheet, the number that was asked for, or the refusal: its number, its step index, and its sheet where two are given.
-#[derive(Drop)]
+#[derive(Clone, Copy)]
 pub enum Answer {
     Accepted(Sizes),
     Given(u64),
@@ -27,7 +27,7 @@ pub enum Answer {
 }
 
 // The answer on a sheet, and for an accepted one the end set of each component.
-#[derive(Drop)]
+#[derive(Clone, Copy)]
 pub struct EndSets {
     pub answer: Answer,
     pub sets: [u64; 16],

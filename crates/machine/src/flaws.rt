@@ -8,7 +8,7 @@ ghost use Rattle.machine.specs.flaws.Flaws.{flaw_of, IsFirstFlaw};
 use dependence::clash;
 
 // The first flaw of some steps: its number and the index of its step; 0 and the number of the steps where there is none.
-#[derive(Drop)]
+#[derive(Clone, Copy)]
 pub struct FirstFlaw {
     pub number: u64,
     pub index: usize,

@@ -1,6 +1,7 @@
 // The normal form of an execution in one pass over its actions: a table of the last step of each component gives each action its level.
 // So the actions are packed into the steps of the normal form, or these steps only counted.
 #![tactic(auto)]
+
 mod counting;
 mod levels;
 mod placing;

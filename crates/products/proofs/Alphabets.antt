@@ -43,6 +43,7 @@ module _ (P : Product) (j : ℕ) where
       go false e rest n = rest n
 
   into_parts : (gs : List ℕ) {g : ℕ} → Memᴰ g gs → takes_part (P.takes g j) ≡ true → Memᴰ g (parts_of P j gs)
+  into_parts [] {g = g} m t = elim m [ ]
   into_parts (h ∷ gs) {g} m t = go (takes_part (P.takes h j)) refl (λ n. into_parts gs n t) (Memᴰ.cases_cons m)
     where
       go : (b : Bool) → takes_part (P.takes h j) ≡ b → (Memᴰ g gs → Memᴰ g (parts_of P j gs)) → (g ≡ h) ⊎ Memᴰ g gs

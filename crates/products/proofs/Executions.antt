@@ -22,6 +22,8 @@ use Rattle.products.proofs.Accepted.{Sound, product_tables}
 -- states at which all components agree go on alike
 same_start : (P : Product) (s t : Global) → SameState P s t → (gs : List ℕ) (ts : List Global) → FiredThrough P s gs ts
     → FiredThrough P t gs ts
+same_start P s t e (g ∷ gs) [] h = elim h [ ]
+same_start P s t e [] (u ∷ ts) h = elim h [ ]
 same_start P s t e [] [] h = tt
 same_start P s t e (g ∷ gs) (u ∷ ts) h = (
   h.0,

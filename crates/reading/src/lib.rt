@@ -1,5 +1,6 @@
 // A sheet read and checked, document 01, refusals 1 to 9: the trailer, and a checker for each section, which is handed to it as a part of the sheet.
 #![tactic(auto)]
+
 mod records;
 mod trailer;
 mod transitions;

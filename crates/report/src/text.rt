@@ -6,7 +6,7 @@ ghost use Rattle.answers.specs.Report.{digits_before, decimal, part, line, step_
 ghost use Rattle.report.specs.text.Texts.{TextAt};
 
 // The decimal digits of a number, which begin at `from`.
-#[derive(Drop)]
+#[derive(Clone, Copy)]
 struct Digits {
     from: usize,
     bytes: [u8; 20],

@@ -14,7 +14,7 @@ ghost use Rattle.rows.specs.table.Parts.{record_part, state_part, component_part
 use answers::Sizes;
 
 // Where component j stands in a product: its own bytes, its number in the first row, and how far it is from a row to the next.
-#[derive(Drop)]
+#[derive(Clone, Copy)]
 struct Column {
     j: usize,
     at: usize,

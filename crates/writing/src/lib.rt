@@ -104,13 +104,23 @@ fn write_steps(packed: &[u64], count: usize, s: usize, n: u8, m: u8, out: &mut [
     write_trailer(s, n, m, &mut out[8 * count..]);
 }
 
+// Copies bytes to the front of the output, and gives back how many they are.
+pub fn put_bytes(bytes: &[u8], out: &mut [u8]) -> usize
+    requires { length bytes.now ≤ length out.old }
+    ensures { (result ≡ length bytes.now) × (out.new ≡ over bytes.now out.old) }
+{
+    let size = bytes.len();
+    out[..size].copy_from_slice(bytes);
+    size
+}
+
 // N9, F4: writes a sheet: the bytes before its steps as they are; the rest of the output is then lent on, to be filled with the steps.
 pub fn write_sheet(front: &[u8], packed: &[u64], count: usize, n: u8, m: u8, out: &mut [u8])
     requires { (length front.now < 65536) × (count ≤ length packed.now) × (count ≤ most_steps)
         × (length front.now + step_size * count + trailer_size ≤ length out.old) }
     ensures { out.new ≡ over (sheet_of front.now n m (take count packed.now)) out.old }
 {
-    let s = bytes::copy(front, out);
+    let s = put_bytes(front, out);
     write_steps(packed, count, s, n, m, &mut out[s..]);
 }
 

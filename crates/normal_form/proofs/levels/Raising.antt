@@ -20,6 +20,7 @@ use Rattle.normal_form.specs.Words.{LastSteps}
 
 -- the entry of each component of the list is at most the largest
 largest_covers : (last js : List ℕ) (j : ℕ) → Memᴰ j js → get_or last j 0 ≤ largest last js
+largest_covers last [] j x' = elim x' [ ]
 largest_covers last (i ∷ js) j (Memᴰ.head e) = let q = ap (λ (x : ℕ). get_or last x 0) e in omega arith
 largest_covers last (i ∷ js) j (Memᴰ.tail t) = let rest = largest_covers last js j t in omega arith
 

@@ -14,7 +14,7 @@ returns : tie.Need-returns
 unfolding sheet_of
 returns c front rest e h =
     let a = c.before.before.before.before.before.args in
-    lent_over front (trailer a.s a.n a.m) rest h e refl c.before.before.write-trailer.ensures
+    lent_over front (trailer a.s a.n a.m) rest h e refl c.before.before.write_trailer.ensures
     ∙ ap (λ (at : ℕ). over (front ++ trailer at a.n a.m) rest) e
 
 pub close_sheet_spec : {M : Type 1} → statement M

@@ -15,7 +15,7 @@ returns c =
     let x = c.before.before.before.before.before.before.before.before.before.args.x in
     let out = c.before.before.before.before.before.before.before.before.before.args.out.now in
     lent_over (bytes 2 x) (bytes 2 (x / 65536)) out c.before.before.before.before.before.before.put2.ensures refl refl
-    c.before.before.put22.ensures
+    c.before.before.put2-2.ensures
     ∙ ap (λ (l : List ℕ). over l out) (sym (bytes_split 2 2 x))
 
 pub put4_spec : {M : Type 1} → statement M

@@ -15,7 +15,7 @@ returns c =
     let x = c.before.before.before.before.before.before.before.before.before.args.x in
     let out = c.before.before.before.before.before.before.before.before.before.args.out.now in
     lent_over (bytes 4 x) (bytes 4 (x / 4294967296)) out c.before.before.before.before.before.before.put4.ensures refl refl
-    c.before.before.put42.ensures
+    c.before.before.put4-2.ensures
     ∙ ap (λ (l : List ℕ). over l out) (sym (bytes_split 4 4 x))
 
 pub put8_spec : {M : Type 1} → statement M

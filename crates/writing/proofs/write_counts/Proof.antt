@@ -10,10 +10,10 @@ use borrow.Author.Rules.{rules}
 use Rattle.writing.proofs.write_counts.Statement.{statement}
 use Rattle.writing.proofs.write_counts.Tie as tie
 
-slice-write-out-2 : tie.Need-slice-write-out-2
+slice-write-out-2 : tie.Need-bounds-out-1
 slice-write-out-2 c = let fits : 4 ≤ length c.args.out.now = c.requires in simp length-set (omega arith)
 
-slice-write-out-3 : tie.Need-slice-write-out-3
+slice-write-out-3 : tie.Need-bounds-out-2
 slice-write-out-3 c = let fits : 4 ≤ length c.args.out.now = c.requires in simp length-set (omega arith)
 
 returns : tie.Need-returns

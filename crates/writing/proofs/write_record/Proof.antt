@@ -24,7 +24,7 @@ returns c =
     let whole : bytes 4 states ≡ bytes 1 a.states ++ bytes 3 0 =
     bytes_split 1 3 states ∙ ap₂ (λ (x y : ℕ). bytes 1 x ++ bytes 3 y) at_wide.wide.ensures.0 high in
     let one = at-states.put4.ensures ∙ ap (λ (l : List ℕ). over l out) whole in
-    let two = lent_over (bytes 1 a.states ++ bytes 3 0) (bytes 4 a.initial) out one refl refl at-initial.put42.ensures in
+    let two = lent_over (bytes 1 a.states ++ bytes 3 0) (bytes 4 a.initial) out one refl refl at-initial.put4-2.ensures in
     let front = (bytes 1 a.states ++ bytes 3 0) ++ bytes 4 a.initial in
     (refl, lent_over front (bytes 8 a.alphabet) out two refl refl at-alphabet.put8.ensures)
 

@@ -17,11 +17,11 @@ unfolding sheet_of
 returns c =
     let a = c.before.before.before.before.before.before.before.before.before.before.before.args in
     let front = a.front.now in
-    let copied = c.before.before.before.before.before.before.copy.ensures in
+    let copied = c.before.before.before.before.before.before.put_bytes-s.ensures in
     let steps = step_bytes (take a.count a.packed.now) in
-    lent_over front (steps ++ trailer c.before.before.before.before.before.before.copy.result a.n a.m) a.out.now
-    (copied.1 ∙ ap (λ (p : List ℕ). p ++ drop (length front) a.out.now) (take-length front)) copied.0 refl
-    c.before.before.write-steps.ensures
+    lent_over front (steps ++ trailer c.before.before.before.before.before.before.put_bytes-s.result a.n a.m) a.out.now
+    copied.1 copied.0 refl
+    c.before.before.write_steps.ensures
     ∙ ap (λ (at : ℕ). over (front ++ (steps ++ trailer at a.n a.m)) a.out.now) copied.0
 
 pub write_sheet_spec : {M : Type 1} → statement M

@@ -13,18 +13,18 @@ use Rattle.writing.proofs.Lending.{lent_over, steps_length, steps_next}
 use Rattle.writing.proofs.write_steps.Statement.{statement}
 use Rattle.writing.proofs.write_steps.Tie as tie
 
-abbrev invariant-loop : tie.invariant-loop
+abbrev invariant-loop : tie.invariant-loop-k
 invariant-loop packed count s n m out₀ k₀ out k = (k ≤ count) × (length out ≡ length out₀) × (out ≡ over (step_bytes (take k packed)) out₀)
 
-abbrev decreases-loop : tie.decreases-loop
+abbrev decreases-loop : tie.decreases-loop-k
 decreases-loop packed count s n m out₀ k₀ out k = count - k
 
-loop-holds : tie.Need-loop-init invariant-loop decreases-loop
+loop-holds : tie.Need-loop-k-init invariant-loop decreases-loop
 loop-holds c = (omega arith, refl, refl)
 
-loop-again : tie.Need-loop-preserved invariant-loop decreases-loop
+loop-again : tie.Need-loop-k-preserved invariant-loop decreases-loop
 loop-again c =
-    let l = c.before.before.before.before.before.before.loop in
+    let l = c.before.before.before.before.before.before.loop-k in
     let a = c.before.before.before.before.before.before.before.before.before.args in
     let packed = a.packed.now in
     let inside : l.k < length packed = omega arith in (
@@ -37,13 +37,13 @@ loop-again c =
 
 returns : tie.Need-returns invariant-loop decreases-loop
 returns c =
-    let l = c.before.before.before.before.before.loop in
+    let l = c.before.before.before.before.before.loop-k in
     let a = c.before.before.before.before.before.before.before.before.args in
     let packed = a.packed.now in
     let all : l.k ≡ a.count = omega arith in
     lent_over (step_bytes (take a.count packed)) (trailer a.s a.n a.m) a.out.now
     (l.invariant.2 ∙ ap (λ (j : ℕ). over (step_bytes (take j packed)) a.out.now) all)
-    (sym (steps_length a.count packed (omega arith))) refl c.before.before.write-trailer.ensures
+    (sym (steps_length a.count packed (omega arith))) refl c.before.before.write_trailer.ensures
 
 pub write_steps_spec : {M : Type 1} → statement M
 write_steps_spec =

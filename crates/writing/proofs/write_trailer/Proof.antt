@@ -25,9 +25,9 @@ returns c =
     let out = a.out.now in
     let t = 16 * at_wide.wide.result in
     let one = at_c.put2.ensures in
-    let two = lent_over (bytes 2 0) (bytes 2 t) out one refl refl at-t.put22.ensures in
-    let three = lent_over (bytes 2 0 ++ bytes 2 t) (bytes 2 a.s) out two refl refl at-s.put23.ensures in
-    lent_over (bytes 2 0 ++ bytes 2 t ++ bytes 2 a.s) (a.n ∷ a.m ∷ mark) out three refl refl at-counts.write-counts.ensures
+    let two = lent_over (bytes 2 0) (bytes 2 t) out one refl refl at-t.put2-2.ensures in
+    let three = lent_over (bytes 2 0 ++ bytes 2 t) (bytes 2 a.s) out two refl refl at-s.put2-3.ensures in
+    lent_over (bytes 2 0 ++ bytes 2 t ++ bytes 2 a.s) (a.n ∷ a.m ∷ mark) out three refl refl at-counts.write_counts.ensures
     ∙ ap (λ (x : ℕ). over (bytes 2 0 ++ bytes 2 (16 * x) ++ bytes 2 a.s ++ (a.n ∷ a.m ∷ mark)) out) at_wide.wide.ensures.0
 
 pub write_trailer_spec : {M : Type 1} → statement M

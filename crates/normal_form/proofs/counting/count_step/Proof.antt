@@ -17,14 +17,14 @@ use Rattle.normal_form.proofs.Words.{place_one, StillToPlace, to_place_all, to_p
 use Rattle.normal_form.proofs.counting.count_step.Statement.{statement}
 use Rattle.normal_form.proofs.counting.count_step.Tie as tie
 
-abbrev invariant-loop : tie.invariant-loop
+abbrev invariant-loop : tie.invariant-loop-left
 invariant-loop participants step count last₀ steps₀ left₀ last steps left =
     StillToPlace most_in_steps participants (members step) (members left) last₀ last (Counted count) (Counted steps)
 
-abbrev decreases-loop : tie.decreases-loop
+abbrev decreases-loop : tie.decreases-loop-left
 decreases-loop participants step count last₀ steps₀ left₀ last steps left = left
 
-loop-holds : tie.Need-loop-init invariant-loop decreases-loop
+loop-holds : tie.Need-loop-left-init invariant-loop decreases-loop
 loop-holds c =
     let start = c.before.before in
     to_place_all most_in_steps start.args.participants.now _ start.args.last.now _ start.requires.1 start.requires.2
@@ -36,49 +36,49 @@ turn_at c = c.before.before.before
 abbrev start-at : tie.After-take-lowest invariant-loop decreases-loop → tie.Start invariant-loop decreases-loop
 start-at c = (turn_at c).before.before.before
 
-next_room : (c : tie.After-take-lowest invariant-loop decreases-loop) → Room most_in_steps (turn_at c).loop.last 1
+next_room : (c : tie.After-take-lowest invariant-loop decreases-loop) → Room most_in_steps (turn_at c).loop-left.last 1
 next_room c =
-    part_room _ _ _ _ _ _ _ _ (turn_at c).loop.invariant (c.take-lowest.result ∷ []) _ (taken_first c.take-lowest.ensures)
+    part_room _ _ _ _ _ _ _ _ (turn_at c).loop-left.invariant (c.take_lowest.result ∷ []) _ (taken_first c.take_lowest.ensures)
 
-take-level-requires : tie.Need-take-level-requires invariant-loop decreases-loop
+take-level-requires : tie.Need-take_level-at-requires invariant-loop decreases-loop
 take-level-requires c κs =
     let took = c.before in
-    let turn = (turn_at took).loop in (
+    let turn = (turn_at took).loop-left in (
       (start-at took).requires.0,
       turn.inv.last_size,
-      took.take-lowest.ensures.below,
+      took.take_lowest.ensures.below,
       λ j h. let r = next_room took j h in omega arith,
     )
 
 -- the action's level is small
-low : (c : tie.After-take-level invariant-loop decreases-loop) → c.take_level.result < most_in_steps
+low : (c : tie.After-take-level invariant-loop decreases-loop) → c.take_level-at.result < most_in_steps
 low c =
     let took = c.before.before in
-    level_below (start-at took).args.participants.now (start-at took).requires.0 took.take-lowest.result _ _ _ c.take_level.ensures
+    level_below (start-at took).args.participants.now (start-at took).requires.0 took.take_lowest.result _ _ _ c.take_level-at.ensures
     most_in_steps (next_room took)
 
-add-larger : tie.Need-overflow-add-larger invariant-loop decreases-loop
+add-larger : tie.Need-overflow_add-at invariant-loop decreases-loop
 add-larger c = omega (arith, low c.before.before)
 
-loop-less : tie.Need-loop-smaller invariant-loop decreases-loop
-loop-less c = left_less c.before.before.before.before.before.take-lowest.ensures
+loop-less : tie.Need-loop-left-smaller invariant-loop decreases-loop
+loop-less c = left_less c.before.before.before.before.before.take_lowest.ensures
 
-loop-again : tie.Need-loop-preserved invariant-loop decreases-loop
+loop-again : tie.Need-loop-left-preserved invariant-loop decreases-loop
 loop-again c =
     let taken = c.before.before.before in
     let took = taken.before.before in
-    let a = took.take-lowest.result in
-    let level = taken.take_level.result in
-    to_place_rest _ _ _ _ _ _ _ _ (turn_at took).loop.invariant (a ∷ []) _ (taken_first took.take-lowest.ensures) _ _
-    (place_one (start-at took).args.participants.now (start-at took).requires.0 a _ _ level taken.take_level.ensures
-    (λ ss few. put_counted a level _ _ c.larger.ensures ss))
-    taken.take_level.auto.1.1.0
+    let a = took.take_lowest.result in
+    let level = taken.take_level-at.result in
+    to_place_rest _ _ _ _ _ _ _ _ (turn_at took).loop-left.invariant (a ∷ []) _ (taken_first took.take_lowest.ensures) _ _
+    (place_one (start-at took).args.participants.now (start-at took).requires.0 a _ _ level taken.take_level-at.ensures
+    (λ ss few. put_counted a level _ _ c.larger-steps.ensures ss))
+    taken.take_level-at.auto.1.1.0
 
-same_length : tie.Need-same-length invariant-loop decreases-loop
-same_length c = c.before.loop.invariant.last_size ∙ sym c.before.before.before.before.requires.1
+same_length : tie.Need-shape_of-last invariant-loop decreases-loop
+same_length c = c.before.loop-left.invariant.last_size ∙ sym c.before.before.before.before.requires.1
 
 returns : tie.Need-returns invariant-loop decreases-loop
-returns c = to_place_none _ _ _ _ _ _ _ _ c.before.loop.invariant (ap members c.loop-test.false ∙ members_zero)
+returns c = to_place_none _ _ _ _ _ _ _ _ c.before.loop-left.invariant (ap members c.loop-left-test.false ∙ members_zero)
 
 pub count_step_spec : {M : Type 1} → statement M
 count_step_spec =

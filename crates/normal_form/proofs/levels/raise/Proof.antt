@@ -12,28 +12,28 @@ use Rattle.normal_form.proofs.levels.Walking.{first_below, raised_none, raised_m
 use Rattle.normal_form.proofs.levels.raise.Statement.{statement}
 use Rattle.normal_form.proofs.levels.raise.Tie as tie
 
-abbrev invariant-loop : tie.invariant-loop
+abbrev invariant-loop : tie.invariant-loop-left
 invariant-loop mine level last₀ left₀ last left =
     (left < 2 ^ 16) × (length last ≡ 16) × ((after : List ℕ) → LevelsRaised left level last after → LevelsRaised mine level last₀ after)
 
-abbrev decreases-loop : tie.decreases-loop
+abbrev decreases-loop : tie.decreases-loop-left
 decreases-loop mine level last₀ left₀ last left = left
 
-loop-holds : tie.Need-loop-init invariant-loop decreases-loop
+loop-holds : tie.Need-loop-left-init invariant-loop decreases-loop
 loop-holds c = (c.before.requires.0, c.before.requires.2, λ after M. M)
 
-slice-write-last : tie.Need-slice-write-last invariant-loop decreases-loop
+slice-write-last : tie.Need-bounds-last-take_lowest invariant-loop decreases-loop
 slice-write-last c =
-    let turn = c.before.before.before.loop in
-    omega (arith, first_below turn.invariant.0 c.take-lowest.ensures)
+    let turn = c.before.before.before.loop-left in
+    omega (arith, first_below turn.invariant.0 c.take_lowest.ensures)
 
-loop-less : tie.Need-loop-smaller invariant-loop decreases-loop
-loop-less c = left_less c.take-lowest.ensures
+loop-less : tie.Need-loop-left-smaller invariant-loop decreases-loop
+loop-less c = left_less c.take_lowest.ensures
 
-loop-again : tie.Need-loop-preserved invariant-loop decreases-loop
+loop-again : tie.Need-loop-left-preserved invariant-loop decreases-loop
 loop-again c =
-    let turn = c.before.before.before.loop in
-    let took = c.take-lowest in
+    let turn = c.before.before.before.loop-left in
+    let took = c.take_lowest in
     let less = left_less took.ensures in
     let fits = first_below turn.invariant.0 took.ensures in (
       omega arith,
@@ -42,7 +42,7 @@ loop-again c =
     )
 
 returns : tie.Need-returns invariant-loop decreases-loop
-returns c = c.before.loop.invariant.2 _ (raised_none _ _ _ c.loop-test.false)
+returns c = c.before.loop-left.invariant.2 _ (raised_none _ _ _ c.loop-left-test.false)
 
 pub raise_spec : {M : Type 1} → statement M
 raise_spec =

@@ -7,7 +7,7 @@ use Rattle.normal_form.proofs.levels.Raising.{level_room}
 use Rattle.normal_form.proofs.levels.take_level.Statement.{statement}
 use Rattle.normal_form.proofs.levels.take_level.Tie as tie
 
-highest-requires : tie.Need-highest-requires
+highest-requires : tie.Need-highest-at-requires
 highest-requires c κs =
     let start = c.before.before.before.before in
     (start.requires.0.small start.args.a, start.requires.1)
@@ -15,7 +15,7 @@ highest-requires c κs =
 raise-requires : tie.Need-raise-requires
 raise-requires c κs =
     let start = c.before.before.before.before.before.before in
-    let found = c.before.highest.ensures in
+    let found = c.before.highest-at.ensures in
     let room = level_room start.args.participants.now start.requires.0 start.args.a start.args.last.now most_of_word 1 start.requires.3 in
     (start.requires.0.small start.args.a, omega arith, start.requires.1)
 
