@@ -24,17 +24,17 @@ other false q r e f = ap not (sym f ∙ e)
 beyond : (x label : ℕ) → 64 ≤ label → x < 2 ^ 64 → false ≡ member x label
 beyond x label h l = sym ((false_iff (member x label)).1 (λ t. let b = member_lt 64 x label l t in omega arith))
 
-returns : tie.Need-returns
-returns c = let h = c.before.has in right (eqb c.before.before.before.args.label 255) h.result _ h.ensures c.if2.true
+returns : tie.Need-returns-then-has
+returns c = let h = c.before.has in right (eqb c.before.before.before.args.label 255) h.result _ h.ensures c.if-has.true
 
-returns-2 : tie.Need-returns-2
+returns-2 : tie.Need-returns
 returns-2 c =
     let s = c.before in
     let a = s.args in
     let internal = eqb a.label 255 in
     ⊎_elim (λ w. other internal w.1.result (member a.alphabet a.label) w.1.ensures w.2.left)
     (λ w. other internal false (member a.alphabet a.label) (beyond a.alphabet a.label w.left s.ranges.alphabet.fits) refl)
-    c.if1.branch
+    c.if-label-lt64.branch
 
 pub label_wrong_spec : {M : Type 1} → statement M
 label_wrong_spec = tie.close (tie.spec (λ c κs. search rules) returns returns-2)
