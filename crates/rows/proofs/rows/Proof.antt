@@ -20,10 +20,10 @@ abbrev product_at : tie.After-read_product-read → List ℕ
 product_at c = (start-at c).args.product.now
 
 abbrev begins-at : tie.After-read_product-read → List ℕ
-begins-at c = c.read_product-read.new.alphabets.0
+begins-at c = c.read_product-read.new.begins
 
 abbrev alphabets-at : tie.After-read_product-read → List ℕ
-alphabets-at c = c.read_product-read.new.alphabets.1.0
+alphabets-at c = c.read_product-read.new.alphabets
 
 returns : tie.Need-returns-in_default
 returns c =

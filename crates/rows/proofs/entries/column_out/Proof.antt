@@ -22,28 +22,28 @@ loop-holds c = (omega arith, λ k l. absurd (omega arith))
 number-at-requires : tie.Need-number_at-requires invariant-loop decreases-loop
 number-at-requires c κs = let s = c.before.before.before in (s.requires.0, omega arith, s.requires.1)
 
-abbrev loop-at : tie.After-number-out invariant-loop decreases-loop → tie.At-loop-g invariant-loop decreases-loop
+abbrev loop-at : tie.After-number_out invariant-loop decreases-loop → tie.At-loop-g invariant-loop decreases-loop
 loop-at c = c.before.before.before
 
-abbrev start-at : tie.After-number-out invariant-loop decreases-loop → tie.Start invariant-loop decreases-loop
+abbrev start-at : tie.After-number_out invariant-loop decreases-loop → tie.Start invariant-loop decreases-loop
 start-at c = c.before.before.before.before.before
 
 -- what was asked of the number of row g
-told_at : (c : tie.After-number-out invariant-loop decreases-loop)
+told_at : (c : tie.After-number_out invariant-loop decreases-loop)
     → c.number_out.result ≡ out_at (start-at c).args.product.now (start-at c).args.j (loop-at c).loop-g.g
 told_at c =
     let s = start-at c in
     let a = s.args in
     let read = c.before.number_at in
     c.number_out.ensures
-    ∙ number_told_fact a.product.now (loop-at c).loop-g.g a.j read.result a.count read.ensures s.pre.2
+    ∙ number_told_fact a.product.now (loop-at c).loop-g.g a.j read.result a.count read.ensures s.requires.2
 
 returns : tie.Need-returns-then-number_out invariant-loop decreases-loop
 returns c =
     let k = c.before in
     let s = start-at k in
     let a = s.args in
-    column_found a.product.now a.n a.m a.j (loop-at k).loop-g.g s.pre.0 (omega arith) (sym (told_at k) ∙ c.if-number_out.true)
+    column_found a.product.now a.n a.m a.j (loop-at k).loop-g.g s.requires.0 (omega arith) (sym (told_at k) ∙ c.if-number_out.true)
 
 loop-again : tie.Need-loop-g-preserved invariant-loop decreases-loop
 loop-again c = (omega arith, below_more _ _ c.before.before.before.before.loop-g.invariant.1 (sym (told_at c.before) ∙ c.if-number_out.false))

@@ -25,7 +25,7 @@ refused e long = record { told = e; size = long; begins_left = λ f. absurd (tru
 returns : tie.Need-returns-then-counts_out
 returns c =
     let s = c.before.before.before.before in
-    refused (counts_refuse s.args.product.now (λ f. not_both c.if-counts_out.true (c.before.counts_out_fact.ensures.1 f))) s.requires
+    refused (counts_refuse s.args.product.now (λ f. not_both c.if-counts_out.true (c.before.counts_out.ensures.1 f))) s.requires
 
 abbrev start-at : tie.Else-counts_out → tie.Start
 start-at c = c.before.before.before.before
@@ -34,7 +34,7 @@ abbrev product_at : tie.Else-counts_out → List ℕ
 product_at c = (start-at c).args.product.now
 
 fit_at : (c : tie.Else-counts_out) → CountsFit (product_at c)
-fit_at c = c.before.counts_out_fact.ensures.0 c.if-counts_out.false
+fit_at c = c.before.counts_out.ensures.0 c.if-counts_out.false
 
 shared-slice-read-wide : tie.Need-bounds-product-0
 shared-slice-read-wide c = let long = (fit_at c.before).both in omega arith
@@ -61,7 +61,7 @@ abbrev m-at : tie.After-read_components-end → ℕ
 m-at c = c.before.before.wide-m.result
 
 read_at : (c : tie.After-read_components-end)
-    → Read (product_at (counted-at c)) c.read_components-end.new.read_at.1.0 (n-at c) (m-at c) c.read_components-end.result
+    → Read (product_at (counted-at c)) c.read_components-end.new.begins (n-at c) (m-at c) c.read_components-end.result
 read_at c =
     let k = counted-at c in
     record {
@@ -97,16 +97,16 @@ returns-3 c =
 
 numbers-out-requires : tie.Need-numbers_out-requires
 numbers-out-requires c κs =
-    let R = read_at c.before.before.before.before.before in
-    let some = c.before.before.if-end-eq0.false in
-    (rows_stand R some c.before.if-product-end.false, begins_left R some)
+    let R = read_at c.before.before.before.before in
+    let some = c.before.if-end-eq0.false in
+    (rows_stand R some c.if-product-end.false, begins_left R some)
 
 returns-4 : tie.Need-returns
 returns-4 c =
-    let R = read_at c.before.before.before.before.before.before in
-    let some = c.before.before.before.if-end-eq0.false in
+    let R = read_at c.before.before.before.before.before in
+    let some = c.before.before.if-end-eq0.false in
     record {
-      told = numbers_told R c.numbers_out.result some c.before.before.if-product-end.false c.numbers_out.ensures;
+      told = numbers_told R c.numbers_out.result some c.before.if-product-end.false c.numbers_out.ensures;
       size = R.components.size;
       begins_left = λ e. begins_left R some;
     }

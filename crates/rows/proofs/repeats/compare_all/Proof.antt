@@ -3,7 +3,6 @@
 use mathlib.Core.Path.{sym, ◌∙◌}
 use Prim.Native.Nat.{◌-◌, ◌≤◌}
 use native.Mathlib.Omega.{arith}
-use Rattle.sets.proofs.Bools.{not_true}
 use borrow.Author.Rules.{rules}
 use Rattle.rows.specs.repeats.Earlier.{EarlierAgree}
 use Rattle.rows.proofs.repeats.Repeated.{none_left, repeats_told}
@@ -24,28 +23,28 @@ loop-holds c = (omega arith, c.before.before.start.ensures c.before.before.befor
 
 some-left-requires : tie.Need-some_left-requires invariant-loop decreases-loop
 some-left-requires c κs =
-    let l = c.before.before in
+    let l = c.before in
     let long = l.loop-j.invariant.1.size in
     let few = l.before.before.before.before.before.before.before.requires.0.few_rows in
     omega arith
 
 same_length : tie.Need-shape_of-same-then-not-some_left invariant-loop decreases-loop
 same_length c =
-    let l = c.before.before.before.before in
+    let l = c.before.before.before in
     l.loop-j.invariant.1.size ∙ sym l.before.before.before.before.before.before.before.requires.1
 
 returns : tie.Need-returns-then-not-some_left invariant-loop decreases-loop
 returns c =
-    let l = c.before.before.before.before in
+    let l = c.before.before.before in
     let s = l.before.before.before.before.before.before.before in
     let a = s.args in
     let left = c.before.some_left in
     none_left a.product.now a.n a.m l.loop-j.j l.loop-j.same s.requires.0 l.loop-j.invariant.1 l.loop-j.invariant.0
-    (sym left.ensures ∙ (not_true left.result).0 c.if-not-some_left.true)
+    (sym left.ensures ∙ c.if-not-some_left.true)
 
 compare-requires : tie.Need-compare-requires invariant-loop decreases-loop
 compare-requires c κs =
-    let l = c.before.before.before.before.before in
+    let l = c.before.before.before.before in
     (l.before.before.before.before.before.before.before.requires.0, omega arith, l.loop-j.invariant.1)
 
 loop-again : tie.Need-loop-j-preserved invariant-loop decreases-loop
@@ -53,19 +52,19 @@ loop-again c = (omega arith, c.before.before.compare.ensures)
 
 some-left-requires-2 : tie.Need-some_left-requires-2 invariant-loop decreases-loop
 some-left-requires-2 c κs =
-    let l = c.before.before in
+    let l = c.before in
     let long = l.loop-j.invariant.1.size in
     let few = l.before.before.before.before.before.before.before.requires.0.few_rows in
     omega arith
 
 same-length-2 : tie.Need-shape_of-same invariant-loop decreases-loop
 same-length-2 c =
-    let l = c.before.before.before in
+    let l = c.before.before in
     l.loop-j.invariant.1.size ∙ sym l.before.before.before.before.before.before.before.requires.1
 
 returns-2 : tie.Need-returns invariant-loop decreases-loop
 returns-2 c =
-    let l = c.before.before.before in
+    let l = c.before.before in
     let s = l.before.before.before.before.before.before.before in
     let a = s.args in
     c.some_left-2.ensures

@@ -32,17 +32,17 @@ transition-at-requires c κs =
     ((start at).requires.0, at.loop-left.invariant.mine took.result took.ensures.own)
 
 shared-slice-read-q : tie.Need-bounds-product-at invariant-loop decreases-loop
-shared-slice-read-q c = let i = c.before.transition_at_fact.ensures.inside in omega arith
+shared-slice-read-q c = let i = c.before.transition_at-at.ensures.inside in omega arith
 
 cast-q : tie.Need-overflow_cast-q invariant-loop decreases-loop
-cast-q c = let few = c.before.transition_at_fact.ensures.source_few in search rules
+cast-q c = let few = c.before.transition_at-at.ensures.source_few in search rules
 
 mul-with : tie.Need-offset_bounds-leaving-q invariant-loop decreases-loop
-mul-with c = let few = c.before.transition_at_fact.ensures.source_few in search rules
+mul-with c = let few = c.before.transition_at-at.ensures.source_few in search rules
 
 slice-read-with : tie.Need-bounds-leaving-q invariant-loop decreases-loop
 slice-read-with c =
-    let few = c.before.before.transition_at_fact.ensures.source_few in
+    let few = c.before.before.transition_at-at.ensures.source_few in
     let long = c.before.before.before.before.before.before.loop-left.invariant.size in
     omega arith
 
@@ -50,11 +50,11 @@ with-requires : tie.Need-with-requires invariant-loop decreases-loop
 with-requires c κs = c.before.before.before.take_lowest-g.ensures.below
 
 mul-leaving : tie.Need-offset_bounds-leaving-q-in-loop-left invariant-loop decreases-loop
-mul-leaving c = let few = c.before.before.before.transition_at_fact.ensures.source_few in search rules
+mul-leaving c = let few = c.before.before.before.transition_at-at.ensures.source_few in search rules
 
 slice-write-leaving : tie.Need-bounds-leaving-q-in-loop-left invariant-loop decreases-loop
 slice-write-leaving c =
-    let few = c.before.before.before.transition_at_fact.ensures.source_few in
+    let few = c.before.before.before.transition_at-at.ensures.source_few in
     let long = c.before.before.before.before.before.before.before.loop-left.invariant.size in
     omega arith
 
@@ -67,11 +67,11 @@ loop-again c =
     let at = found.before.before.before.before in
     let a = (start at).args in
     rw c.with.ensures
-    (leaving_more a.product.now a.column.j found.transition_at_fact.result at.loop-left.leaving at.loop-left.invariant
-    found.before.take_lowest-g.ensures found.transition_at_fact.ensures)
+    (leaving_more a.product.now a.column.j found.transition_at-at.result at.loop-left.leaving at.loop-left.invariant
+    found.before.take_lowest-g.ensures found.transition_at-at.ensures)
 
 same_length : tie.Need-shape_of-leaving invariant-loop decreases-loop
-same_length c = c.before.loop-left.invariant.size ∙ sym (ap length (start c.before).pre.2 ∙ length-replicate {A = ℕ} most_states 0)
+same_length c = c.before.loop-left.invariant.size ∙ sym (ap length (start c.before).requires.2 ∙ length-replicate {A = ℕ} most_states 0)
 
 returns : tie.Need-returns invariant-loop decreases-loop
 returns c = let l = c.before.loop-left in leaving_all _ _ l.left l.leaving l.invariant c.loop-left-test.false

@@ -52,15 +52,15 @@ transition-at-requires c κs =
     let at = c.before.before.before in
     let s = start at in
     let a = s.args in (
-      s.pre.0,
-      first_mine c.take_lowest-g.ensures a.rows at.loop-left.invariant.0 a.product.now a.column.j a.q s.pre.1,
+      s.requires.0,
+      first_mine c.take_lowest-g.ensures a.rows at.loop-left.invariant.0 a.product.now a.column.j a.q s.requires.1,
     )
 
 cast-write-transition : tie.Need-overflow_cast-column invariant-loop decreases-loop
 cast-write-transition c =
     let s = start c.before.before.before.before.before in
-    let low = s.pre.0.component_below in
-    let few = s.pre.0.well_formed.components_high in
+    let low = s.requires.0.component_below in
+    let few = s.requires.0.well_formed.components_high in
     let small : s.args.column.j < 256 = omega arith in
     search rules
 
@@ -68,18 +68,18 @@ cast-write-transition-2 : tie.Need-overflow_cast-g invariant-loop decreases-loop
 cast-write-transition-2 c = let l = c.before.before.take_lowest-g.ensures.below in search rules
 
 add-write-transition : tie.Need-overflow_add-at invariant-loop decreases-loop
-add-write-transition c = let i = c.before.transition_at_fact.ensures.inside in search rules
+add-write-transition c = let i = c.before.transition_at-at.ensures.inside in search rules
 
 shared-slice-read-write-transition : tie.Need-bounds-product-at invariant-loop decreases-loop
-shared-slice-read-write-transition c = let i = c.before.before.transition_at_fact.ensures.inside in omega arith
+shared-slice-read-write-transition c = let i = c.before.before.transition_at-at.ensures.inside in omega arith
 
 sub-write-transition : tie.Need-slice_bounds-write_transition-count invariant-loop decreases-loop
 sub-write-transition c = to_write_used c.before.before.before.before.before.before.loop-left.invariant.1
 
-part-write-transition-start : tie.Need-slice-bounds-write-transition-start invariant-loop decreases-loop
+part-write-transition-start : tie.Need-slice_bounds-write_transition-start invariant-loop decreases-loop
 part-write-transition-start c = let u = to_write_used c.before.before.before.before.before.before.loop-left.invariant.1 in search rules
 
-part-write-transition-end : tie.Need-slice-bounds-write-transition-end invariant-loop decreases-loop
+part-write-transition-end : tie.Need-slice_bounds-write_transition-end invariant-loop decreases-loop
 part-write-transition-end c = let u = to_write_used c.before.before.before.before.before.before.loop-left.invariant.1 in search rules
 
 write-transition-requires : tie.Need-write_transition-used-requires invariant-loop decreases-loop
@@ -116,9 +116,9 @@ loop-again c =
     let a = (start at).args in
     let b = a.product.now in
     let j = a.column.j in
-    let place = found.transition_at_fact.result in
-    let rest = text b j a.q (members low.new.0) in
-    let row = sym (row_written b j a.q low.result place found.transition_at_fact.ensures) in (
+    let place = found.transition_at-at.result in
+    let rest = text b j a.q (members low.new.left) in
+    let row = sym (row_written b j a.q low.result place found.transition_at-at.ensures) in (
       within_rest low.ensures a.rows at.loop-left.invariant.0,
       to_write_more at.loop-left.invariant.1 (j ∷ a.q ∷ low.result ∷ get_or b (place + 1) 0 ∷ []) rest
           (next_row b j a.q (taken_first low.ensures) ∙ ap (λ (l : List ℕ). l ++ rest) row)

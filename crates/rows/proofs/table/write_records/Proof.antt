@@ -56,7 +56,7 @@ standing : (c : tie.In-loop-j invariant-loop decreases-loop) → RecordInside (p
 standing c =
     let s = start c.before in
     let a = s.args in
-    record_inside a.product.now a.begins.now a.n c.before.loop-j.j s.pre.0 s.pre.1 s.pre.3 c.loop-j-test.true
+    record_inside a.product.now a.begins.now a.n c.before.loop-j.j s.requires.0 s.requires.1 s.requires.3 c.loop-j-test.true
 
 -- its record, where `initial` is the set that was made
 abbrev written : tie.In-loop-j invariant-loop decreases-loop → ℕ → List ℕ
@@ -78,7 +78,7 @@ next_record c x e =
     let b = a.product.now in
     let j = c.before.loop-j.j in
     let low = c.loop-j-test.true in
-    let told = record_told b a.begins.now a.n j s.pre.0 s.pre.1 s.pre.3 low a.alphabets.now s.pre.2 in
+    let told = record_told b a.begins.now a.n j s.requires.0 s.requires.1 s.requires.3 low a.alphabets.now s.requires.2 in
     left_next (record_bytes (product_of b)) a.n j low ∙ ap (λ (l : List ℕ). l ++ later c) (sym (ap (written c) e ∙ told))
 
 -- ---- what is asked
@@ -87,7 +87,7 @@ mul_at : tie.Need-offset_bounds-begins-j invariant-loop decreases-loop
 mul_at c = let i = standing c in search rules
 
 shared-slice-read-at : tie.Need-bounds-begins-j invariant-loop decreases-loop
-shared-slice-read-at c = let i = standing c.before in let long = (start c.before.before).pre.1.size in omega arith
+shared-slice-read-at c = let i = standing c.before in let long = (start c.before.before).requires.1.size in omega arith
 
 add-with : tie.Need-overflow_add-at invariant-loop decreases-loop
 add-with c = let i = standing c.before in search rules
@@ -110,16 +110,16 @@ mul-write-record c = let i = standing c.before.before.before.before in search ru
 shared-slice-read-write-record-2 : tie.Need-bounds-alphabets-j invariant-loop decreases-loop
 shared-slice-read-write-record-2 c =
     let i = standing c.before.before.before.before.before in
-    let long = (start c.before.before.before.before.before.before).pre.2.size in
+    let long = (start c.before.before.before.before.before.before).requires.2.size in
     omega arith
 
 sub-write-record : tie.Need-slice_bounds-write_record-count invariant-loop decreases-loop
 sub-write-record c = to_write_used c.before.before.before.before.before.before.loop-j.invariant.1
 
-part-write-record-start : tie.Need-slice-bounds-write-record-start invariant-loop decreases-loop
+part-write-record-start : tie.Need-slice_bounds-write_record-start invariant-loop decreases-loop
 part-write-record-start c = let u = to_write_used c.before.before.before.before.before.before.loop-j.invariant.1 in search rules
 
-part-write-record-end : tie.Need-slice-bounds-write-record-end invariant-loop decreases-loop
+part-write-record-end : tie.Need-slice_bounds-write_record-end invariant-loop decreases-loop
 part-write-record-end c = let u = to_write_used c.before.before.before.before.before.before.loop-j.invariant.1 in search rules
 
 write-record-requires : tie.Need-write_record-used-requires invariant-loop decreases-loop

@@ -57,8 +57,8 @@ below_states : (c : tie.In-loop-q invariant-loop decreases-loop)
     → (c.before.loop-q.q < count (product_at c) (component-at c)) × (c.before.loop-q.q < most_states)
 below_states c =
     let s = start c.before in
-    let e = states_there s.args.product.now s.args.column s.pre.0 in
-    let few = states_few s.args.product.now s.args.column s.pre.0 in
+    let e = states_there s.args.product.now s.args.column s.requires.0 in
+    let few = states_few s.args.product.now s.args.column s.requires.0 in
     let t = c.loop-q-test.true in
     (omega arith, omega arith)
 
@@ -76,16 +76,16 @@ mul-write-leaving c = let l = (below_states c).1 in search rules
 shared-slice-read-write-leaving : tie.Need-bounds-leaving-q invariant-loop decreases-loop
 shared-slice-read-write-leaving c =
     let l = (below_states c.before).1 in
-    let long = (start c.before.before).pre.1.size in
+    let long = (start c.before.before).requires.1.size in
     omega arith
 
 sub-write-leaving : tie.Need-slice_bounds-write_leaving-count invariant-loop decreases-loop
 sub-write-leaving c = to_write_used c.before.before.loop-q.invariant.1
 
-part-write-leaving-start : tie.Need-slice-bounds-write-leaving-start invariant-loop decreases-loop
+part-write-leaving-start : tie.Need-slice_bounds-write_leaving-start invariant-loop decreases-loop
 part-write-leaving-start c = let u = to_write_used c.before.before.loop-q.invariant.1 in search rules
 
-part-write-leaving-end : tie.Need-slice-bounds-write-leaving-end invariant-loop decreases-loop
+part-write-leaving-end : tie.Need-slice_bounds-write_leaving-end invariant-loop decreases-loop
 part-write-leaving-end c = let u = to_write_used c.before.before.loop-q.invariant.1 in search rules
 
 write-leaving-requires : tie.Need-write_leaving-used-requires invariant-loop decreases-loop
@@ -95,8 +95,8 @@ write-leaving-requires c κs =
     let b = product_at turn in
     let j = component-at turn in
     let s = start at in (
-      s.pre.0,
-      s.pre.1.each at.loop-q.q (below_states turn).1,
+      s.requires.0,
+      s.requires.1.each at.loop-q.q (below_states turn).1,
       to_write_lent at.loop-q.invariant.1 (state_part b j at.loop-q.q) (left b j (at.loop-q.q + 1)) (next_state turn),
     )
 
@@ -139,7 +139,7 @@ returns c =
     let s = start at in
     let b = s.args.product.now in
     let j = s.args.column.j in
-    let e = states_there b s.args.column s.pre.0 in
+    let e = states_there b s.args.column s.requires.0 in
     let l = c.loop-q-test.false in
     to_write_end at.loop-q.invariant.1 (left_none (state_part b j) (count b j) at.loop-q.q (omega arith))
 

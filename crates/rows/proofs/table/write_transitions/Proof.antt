@@ -43,14 +43,14 @@ loop-holds c =
 
 column-of-requires : tie.Need-column_of-column-requires invariant-loop decreases-loop
 column-of-requires c κs =
-    let r = (start c.before.before).pre.0 in
+    let r = (start c.before.before).requires.0 in
     (r.well_formed, r.begins_left, r.n_told, r.m_told, c.loop-j-test.true)
 
 -- the component is one of sixteen
 few : (c : tie.In-loop-j invariant-loop decreases-loop) → c.before.before.loop-j.j < most_components
 few c =
     let s = start c.before.before in
-    let r = s.pre.0 in
+    let r = s.requires.0 in
     let m = counts_read s.args.product.now s.args.sizes.n s.args.sizes.m r.well_formed r.n_told r.m_told in
     let most = m.components_few in
     let t = c.loop-j-test.true in
@@ -62,16 +62,16 @@ mul-write-component c = let l = few c.before in search rules
 shared-slice-read-write-component : tie.Need-bounds-alphabets-j invariant-loop decreases-loop
 shared-slice-read-write-component c =
     let l = few c.before.before in
-    let long = (start c.before.before.before.before).pre.0.alphabets_left.size in
+    let long = (start c.before.before.before.before).requires.0.alphabets_left.size in
     omega arith
 
 sub-write-component : tie.Need-slice_bounds-write_component-count invariant-loop decreases-loop
 sub-write-component c = to_write_used c.before.before.before.before.loop-j.invariant.1
 
-part-write-component-start : tie.Need-slice-bounds-write-component-start invariant-loop decreases-loop
+part-write-component-start : tie.Need-slice_bounds-write_component-start invariant-loop decreases-loop
 part-write-component-start c = let u = to_write_used c.before.before.before.before.loop-j.invariant.1 in search rules
 
-part-write-component-end : tie.Need-slice-bounds-write-component-end invariant-loop decreases-loop
+part-write-component-end : tie.Need-slice_bounds-write_component-end invariant-loop decreases-loop
 part-write-component-end c = let u = to_write_used c.before.before.before.before.loop-j.invariant.1 in search rules
 
 -- the component of this turn, by the column that was found for it
@@ -98,12 +98,12 @@ write-component-requires c κs =
     let found = c.before.before in
     let b = product_at found in
     let l = (at-loop found).loop-j in
-    let r = (start (at-loop found)).pre.0 in
+    let r = (start (at-loop found)).requires.0 in
     let low = found.before.loop-j-test.true in
     let told = r.n_told in (
       found.column_of-column.ensures.0,
       r.alphabets_left.told l.j (omega arith) ∙ ap (alphabet (product_of b)) (sym found.column_of-column.ensures.1),
-      to_write_lent l.inv.1 (component_part b found.column_of-column.result.j) (left b (count_at found) (l.j + 1)) (next_component found),
+      to_write_lent l.invariant.1 (component_part b found.column_of-column.result.j) (left b (count_at found) (l.j + 1)) (next_component found),
     )
 
 add-used : tie.Need-overflow_add-used invariant-loop decreases-loop
@@ -113,10 +113,10 @@ add-used c =
     let b = product_at found in
     let l = (at-loop found).loop-j in
     let next = component_part b found.column_of-column.result.j in
-    let room = to_write_room l.inv.1 next (left b (count_at found) (l.j + 1)) (next_component found) in
-    let same = to_write_length l.inv.1 in
+    let room = to_write_room l.invariant.1 next (left b (count_at found) (l.j + 1)) (next_component found) in
+    let same = to_write_length l.invariant.1 in
     let size = wrote.write_component-used.ensures.0 in
-    let good = (start (at-loop found)).good.1.1.1.1.0 in
+    let good = (start (at-loop found)).well_formed.1.1.1.1.0 in
     search rules
 
 add-j : tie.Need-overflow_add-j invariant-loop decreases-loop
@@ -134,7 +134,7 @@ loop-again c =
     let next = component_part b found.column_of-column.result.j in
     let low = found.before.loop-j-test.true in (
       omega arith,
-      to_write_more l.inv.1 next (left b (count_at found) (l.j + 1)) (next_component found) refl
+      to_write_more l.invariant.1 next (left b (count_at found) (l.j + 1)) (next_component found) refl
           wrote.write_component-used.ensures.1 wrote.write_component-used.ensures.0,
     )
 
