@@ -12,6 +12,7 @@ use Rattle.sheet.specs.Sections.{Alphabets}
 use Rattle.dependence.specs.participants.Participants.{Participants}
 use Rattle.answers.specs.Outcomes.{outcome_of}
 use Rattle.columns.specs.Calls.{ColumnsAnswer}
+use Rattle.desk.proofs.Parts.{decoded_alphabets}
 use Rattle.merging.proofs.LinedColumns.{not_legible, Found, found_by, columns_found, few_left, lined}
 use Rattle.merging.proofs.MergedColumns.{left_not, word_given, word_answered}
 use Rattle.merging.proofs.merge_columns.Statement.{statement}
@@ -23,7 +24,7 @@ start-at c = c.before.before.before.before.before
 -- the alphabets of the sheet, among its records
 alphabets_told : (c : tie.After-alphabets)
     → let a = (start-at c).args in Alphabets (tables a.sheet.now) a.sizes.n c.alphabets.result.now
-alphabets_told c = c.alphabets.ensures.1 _ _ (start-at c).requires.1
+alphabets_told c = decoded_alphabets (start-at c).requires.1 c.alphabets.ensures
 
 read-columns-requires : tie.Need-read-columns-requires
 read-columns-requires c κs =

@@ -1,5 +1,6 @@
 -- `records::participants_at` meets its contract (N3): the participants of each action, by the decoded records of the sheet.
 -- Assumes nothing.
+use mathlib.Core.Path.{refl}
 use borrow.Author.Rules.{rules}
 use Rattle.desk.proofs.records.participants_at.Statement.{statement}
 use Rattle.desk.proofs.records.participants_at.Tie as tie
