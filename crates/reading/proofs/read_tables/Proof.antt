@@ -70,12 +70,12 @@ filled_at c = start-at c.before.before.before
 
 action-unused-requires : tie.Need-action_unused-requires
 action-unused-requires c κs =
-    let k = c.before.before.before.before in
+    let k = c.before.before.before in
     let r = read_at (filled_at k) in
     (omega arith, omega arith, (k.decode.ensures 0).size)
 
 abbrev decoded_at : tie.After-action_unused → tie.After-decode
-decoded_at c = c.before.before.before.before.before
+decoded_at c = c.before.before.before.before
 
 abbrev right-at : tie.After-action_unused → tie.Else-records_wrong
 right-at c = (decoded_at c).before.before
@@ -98,12 +98,12 @@ actions_passed c = unused c.before ∙ c.if-action_unused.false
 
 refusal-requires : tie.Need-refusal-refusal-requires
 refusal-requires c κs =
-    let k = decoded_at c.before.before.before in
+    let k = decoded_at c.before.before in
     let r = read_at (filled_at k) in
     (omega arith, omega arith, (k.decode.ensures 0).size)
 
 abbrev used-at : tie.After-refusal-refusal → tie.Else-action_unused
-used-at c = c.before.before.before
+used-at c = c.before.before
 
 abbrev fit_at : tie.After-refusal-refusal → tie.Start
 fit_at c = filled_at (decoded_at (used-at c).before)
@@ -162,7 +162,7 @@ returns-5 c =
     let s = filled_at d in
     let e = counted k ∙ c.if-too_many.false in
     rw (records_passed (right-at u.before), actions_passed u, transitions_passed o, e) (
-      s.pre.0 ∙ ap (read_outcome (sheet_at s)) (trailer_then (sheet_at s) s.args.sizes s.pre.0 accepted),
+      s.requires.0 ∙ ap (read_outcome (sheet_at s)) (trailer_then (sheet_at s) s.args.sizes s.requires.0 accepted),
       λ f. decoded_part (read_at s) (d.decode.ensures _),
     )
 
@@ -177,7 +177,7 @@ read_tables_spec =
     (λ c κs. search rules)
     returns
     decode-requires
-    (λ c. let r = read_at (filled_at c.before.before.before.before) in omega arith)
+    (λ c. let r = read_at (filled_at c.before.before.before) in omega arith)
     action-unused-requires
     (λ c κs. search rules)
     (λ c. search rules)

@@ -3,7 +3,6 @@
 -- The measure is how many transitions are left. Assumes nothing.
 use mathlib.Core.Path.{◌≡◌, refl, sym, ap, ap₂, ◌∙◌}
 use mathlib.Core.Bool.{Bool, true, false, not, ◌||◌}
-use mathlib.Core.Logic.{⊎_elim}
 use mathlib.Core.List.{List, map}
 use Prim.Native.Nat.{ℕ, ◌+◌, ◌*◌, ◌/◌, ◌-◌, ◌≤◌, ◌<◌}
 use native.Mathlib.Omega.{arith}
@@ -22,6 +21,7 @@ use Rattle.reading.proofs.transitions.Order.{falls_behind, falls_first, falls_ne
 use Rattle.reading.proofs.transitions.Standing.{standing, transition_at_fact}
 use Rattle.reading.proofs.transitions.refusal.Statement.{statement}
 use Rattle.reading.proofs.transitions.refusal.Tie as tie
+use Rattle.reading.proofs.transitions.refusal.Lts.{then-component-current+else-n-component, else-component-current}
 
 -- ---- the transitions from part k on
 
@@ -94,7 +94,7 @@ loop-holds c =
       some,
       record { below = omega arith; states_read = c.before.before.states-states.ensures; alphabet_read = c.before.alphabet-alphabet.ensures },
       λ T D. ap (λ (l : List (List ℕ)). any_of (transition_wrong T) (map transition_of l)) (sym (parts_first 4 n b)),
-      falls_first n b (λ i. (e.before.before.shared-slice-known.given i).fits) (omega arith) some c.key-last.result c.key-last.ensures,
+      falls_first n b (λ i. (e.shared_slice_known-1.given i).fits) (omega arith) some c.key-last.result c.key-last.ensures,
     )
 
 -- the arguments
@@ -135,19 +135,25 @@ at_hand : (c : tie.Joined-component-current invariant-loop decreases-loop)
     → let i = c.before.before in
     let a = (start i).args in
     (c.if-component-current.current ≡ get_or (bytes-at i) (4 * i.loop-current.k) 0)
-    × AtHand a.records.now a.n c.if-component-current.current c.if-component-current.states-states c.if-component-current.alphabet-alphabet
+    × AtHand a.records.now a.n c.if-component-current.current c.if-component-current.states c.if-component-current.alphabet
 at_hand c =
     let i = c.before.before in
     let l = i.loop-current in
     let component = get_or (bytes-at i) (4 * l.k) 0 in
-    ⊎_elim
-    (λ w.
-    kept component component w.2.result w.3.result c.if-component-current.current c.if-component-current.states-states c.if-component-current.alphabet-alphabet
-    (record { below = w.1.left; states_read = w.2.ensures; alphabet_read = w.3.ensures }) refl w.4 w.5 w.6)
-    (λ w.
-    kept component l.current l.states-states l.alphabet-alphabet c.if-component-current.current c.if-component-current.states-states c.if-component-current.alphabet-alphabet
-    l.invariant.2 (sym w.0.left) w.1 w.2 w.3)
-    c.if-component-current.branch
+    let j = c.if-component-current in
+    elim j.branch [
+      | then-component-current+else-n-component w ↦
+          kept component component w.states-states-then-component-current.result w.alphabet-alphabet-then-component-current.result j.current j.states j.alphabet
+          (record {
+            below = w.if-n-component.false;
+            states_read = w.states-states-then-component-current.ensures;
+            alphabet_read = w.alphabet-alphabet-then-component-current.ensures;
+          })
+          refl w.current-is w.states-is w.alphabet-is
+      | else-component-current w ↦
+          kept component l.current l.states l.alphabet j.current j.states j.alphabet l.invariant.2 (sym w.if-component-current.false)
+          w.current-is w.states-is w.alphabet-is
+    ]
 
 -- the answer to part k
 tested : (c : tie.After-transition_wrong invariant-loop decreases-loop) (T : Tables) → Wanted c.before.before.before T
