@@ -21,7 +21,7 @@ use Rattle.mark.proofs.put_report.Tie as tie
 never_else : {P : Type 0} (a : Answer) → OneOf (0 ∷ 2 ∷ []) (Declared.tag_of enum.the_type a) → (k : ℕ)
     → outcome_of a ≡ given (one_value k) → P
 never_else (Answer.Accepted z) h k e = let z : ◌≡◌ {A = ℕ} 0 1 = cc in absurd (omega arith)
-never_else (Answer.Given x) h k e = elim h [ inl q ↦ absurd (omega arith) | inr q ↦ absurd (omega arith) ]
+never_else (Answer.Given x) h k e = absurd (h x refl)
 never_else (Answer.Refused n i s) h k e = let z : ◌≡◌ {A = ℕ} 0 1 = cc in absurd (omega arith)
 
 slice-aggregate-report : tie.Need-slice-aggregate-report

@@ -1,14 +1,10 @@
 -- `rows` meets its contract (B6, O8): the refusal of the reader, with the output as it came; else 13 or the sheet.
 -- Assumes nothing.
-use mathlib.Core.Path.{◌≡◌, refl, subst}
-use mathlib.Core.Logic.{inl, inr}
+use mathlib.Core.Path.{subst}
 use mathlib.Core.List.{List}
 use Prim.Native.Nat.{ℕ, ◌<◌}
 use borrow.Author.Rules.{rules}
 use Rattle.answers.specs.declared.Sizes.{Sizes}
-use Rattle.answers.specs.declared.Answer.{Answer}
-use Rattle.answers.specs.declared.Answer.TheVariants.{Accepted, Given, Refused}
-use Rattle.answers.proofs.Passing.{NotAccepted}
 use Rattle.rows.specs.Reading.{ReadProduct}
 use Rattle.rows.specs.judge.Judging.{Judged}
 use Rattle.rows.proofs.CallAnswers.{rows_refused, rows_short, rows_written}
@@ -29,17 +25,11 @@ begins-at c = c.read_product-read.new.begins
 abbrev alphabets-at : tie.After-read_product-read → List ℕ
 alphabets-at c = c.read_product-read.new.alphabets
 
--- what is not accepted carries another tag
-not_accepted : (r : Answer) → ((z : Sizes) → ¬ (r ≡ Accepted z)) → NotAccepted r
-not_accepted (Accepted z) h = absurd (h z refl)
-not_accepted (Given x) h = inl refl
-not_accepted (Refused k i s) h = inr refl
-
 returns : tie.Need-returns-in_default
 returns c =
     let r = c.before.before.before in
     let told = r.read_product-read in
-    rows_refused (product_at r) (start-at r).args.out.now (begins-at r) (alphabets-at r) told.result (not_accepted told.result c.in_default.not-Accepted)
+    rows_refused (product_at r) (start-at r).args.out.now (begins-at r) (alphabets-at r) told.result c.in_default.not-Accepted
     told.ensures
 
 -- the product was read, with these sizes

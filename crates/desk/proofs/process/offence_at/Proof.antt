@@ -22,12 +22,12 @@ returns c =
     let s = cut.before.before.before in
     let b = s.args.sheet.now in
     let z = s.args.sizes in
-    let part = cut.step-section.ensures in
-    c.first-offence.ensures (tables b) (accepted_order b s.requires.0.sheet_accepted)
+    let part = cut.step_section-section.ensures in
+    c.first_offence.ensures (tables b) (accepted_order b s.requires.0.sheet_accepted)
     (decoded_alphabets s.requires.1 named.alphabets.ensures) (section_over b z s.requires.0 _ part)
     ∙ ap (λ (xs : List ℕ). offending (first_offence (dependent (tables b)) (map members xs))) (section_told b z s.requires.0 _ part)
 
-first-offence-requires : tie.Need-first-offence-requires
+first-offence-requires : tie.Need-first_offence-requires
 first-offence-requires c κs =
     let s = c.before.before.before.before in
     let A = decoded_alphabets s.requires.1 c.alphabets.ensures in

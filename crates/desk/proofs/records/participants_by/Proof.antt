@@ -16,7 +16,7 @@ use Rattle.desk.proofs.records.participants_by.Tie as tie
 sixteen : (l a : List ℕ) → length l ≡ 4 * most_components → a ≡ take most_components (drop (2 * most_components) l) → length a ≡ most_components
 sixteen l a h e = ap length e ∙ length-take-le most_components (drop (2 * most_components) l) (rw length-drop (omega arith))
 
-participants-of-requires : tie.Need-participants-of-requires
+participants-of-requires : tie.Need-participants_of-requires
 participants-of-requires c κs =
     let s = c.before.before.before.before in
     let few = s.requires.0 in
@@ -26,7 +26,7 @@ participants-of-requires c κs =
 returns : tie.Need-returns
 returns c T D =
     let made = c.before.before in
-    made.participants-of.ensures T (decoded_alphabets D made.before.before.alphabets.ensures)
+    made.participants_of.ensures T (decoded_alphabets D made.before.before.alphabets.ensures)
 
 pub participants_by_spec : {M : Type 1} → statement M
 participants_by_spec = tie.close (tie.spec (λ c κs. search rules) participants-of-requires (λ c. search rules) returns)
