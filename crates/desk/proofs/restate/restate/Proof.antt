@@ -48,7 +48,7 @@ returns-2 c =
     let b = a.sheet.now in
     let told = d.judge_tables-judged.result in
     let stop =
-    stopped_by told c.in-Accepted-judged.keys2 (verdict b) (component_count b) (action_count b) (transitions_at b) (steps_at b)
+    stopped_by told c.in_default-judged.not-Accepted (verdict b) (component_count b) (action_count b) (transitions_at b) (steps_at b)
     d.judge_tables-judged.ensures.0.answer_told in
     restate_refused b a.out.now told (verdict b) stop stop.verdict_told
 
