@@ -18,8 +18,7 @@ returns c =
 
 judge-passed-requires : tie.Need-judge_passed-requires
 judge-passed-requires c κs =
-    let told = c.before.before.before in
-    (ap outcome_of (sym told.told.given.1) ∙ told.before.before.read_trailer-told.ensures, refl, refl)
+    (ap outcome_of (sym c.in-Accepted.is) ∙ c.read_trailer-told.ensures, refl, refl)
 
 returns-2 : tie.Need-returns
 returns-2 c = c.before.before.judge_passed.ensures.0.answer_told

@@ -20,7 +20,7 @@ abbrev sheet_at : tie.After-judge-answer → List ℕ
 sheet_at c = c.before.before.before.before.before.args.sheet.now
 
 abbrev held_at : tie.After-judge-answer → List ℕ
-held_at c = c.judge-answer.new.held.1.0
+held_at c = c.judge-answer.new.held
 
 returns : tie.Need-returns-in_default
 returns c =
@@ -34,15 +34,15 @@ returns c =
     )
 
 abbrev judged-at : tie.In-Accepted → tie.After-judge-answer
-judged-at c = c.before.before.before.before.before.before
+judged-at c = c.before.before.before.before
 
 abbrev sizes-at : tie.In-Accepted → Sizes
-sizes-at c = c.before.answer.given.0.0
+sizes-at c = c.in-Accepted.sizes
 
 accepted_at : (c : tie.In-Accepted) → AcceptedSheet (sheet_at (judged-at c)) (sizes-at c)
 accepted_at c =
     accepted_sheet (sheet_at (judged-at c)) (sizes-at c)
-    (ap outcome_of (sym c.before.answer.given.1) ∙ (judged-at c).judge-answer.ensures.0.answer_told)
+    (ap outcome_of (sym c.in-Accepted.is) ∙ (judged-at c).judge-answer.ensures.0.answer_told)
 
 first-sets-requires : tie.Need-first_sets-requires
 first-sets-requires c κs =
@@ -55,7 +55,7 @@ returns-2 : tie.Need-returns
 returns-2 c =
     let k = c.before.before in
     let d = judged-at k in (
-      ends_first (sheet_at d) d.judge-answer.result (held_at d) d.judge-answer.ensures.0 _ k.before.answer.given.1 (sizes-at k) (accepted_at k)
+      ends_first (sheet_at d) d.judge-answer.result (held_at d) d.judge-answer.ensures.0 _ c.in-Accepted.is (sizes-at k) (accepted_at k)
           c.first_sets.ensures,
       d.judge-answer.ensures.1,
     )

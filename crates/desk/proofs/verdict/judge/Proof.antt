@@ -22,9 +22,7 @@ returns c =
 
 judge-passed-requires : tie.Need-judge_passed-requires
 judge-passed-requires c κs =
-    let read = c.before.before.before in
-    let r = read.before.before in
-    (ap outcome_of (sym read.read.given.1) ∙ r.read_trailer-read.ensures, (start-at r).requires.0, (start-at r).requires.1)
+    (ap outcome_of (sym c.in-Accepted.is) ∙ c.read_trailer-read.ensures, c.requires.0, c.requires.1)
 
 pub judge_spec : {M : Type 1} → statement M
 judge_spec =

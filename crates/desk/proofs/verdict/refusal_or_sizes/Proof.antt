@@ -21,10 +21,10 @@ no_refusal (Given y) h (refused k i) x e = let n : ◌≡◌ {A = ℕ} 0 1 = cc 
 no_refusal (Refused l j s) h (refused k i) x e = absurd (h l j s refl)
 
 returns : tie.Need-returns-in_default
-returns c b v same e = same ∙ ap (read_outcome b) (sym (no_refusal c.before.args.answer c.in_default.not-Refused v (sizes_of b) e))
+returns c b v same e = same ∙ ap (read_outcome b) (sym (no_refusal c.args.answer c.in_default.not-Refused v (sizes_of b) e))
 
 returns-2 : tie.Need-returns
-returns-2 c b v same e = ap outcome_of (sym c.before.answer.given.1) ∙ e
+returns-2 c b v same e = ap outcome_of (sym c.in-Refused.is) ∙ e
 
 pub refusal_or_sizes_spec : {M : Type 1} → statement M
 refusal_or_sizes_spec = tie.close (tie.spec (λ c. search rules) returns returns-2)
