@@ -31,14 +31,14 @@ returns c =
     refused_told d.before.before.before.args.sheet.now d.check_with-answer.result c.in_default.not-Accepted d.check_with-answer.ensures.0
 
 abbrev checked-at : tie.In-Accepted → tie.After-check_with-answer
-checked-at c = c.before.before.before.before
+checked-at c = c.before.before
 
-accepted_at : (c : tie.In-Accepted) → AcceptedSheet (checked-at c).before.before.before.args.sheet.now c.before.answer.given.0.0
-accepted_at c = check_accepted _ _ _ c.before.answer.given.1 (checked-at c).check_with-answer.ensures.0
+accepted_at : (c : tie.In-Accepted) → AcceptedSheet (checked-at c).before.before.before.args.sheet.now c.in-Accepted.sizes
+accepted_at c = check_accepted _ _ _ c.in-Accepted.is (checked-at c).check_with-answer.ensures.0
 
 -- its decoded records
 decoded_at : (c : tie.In-Accepted) → let d = checked-at c in
-    Decoded (tables d.before.before.before.args.sheet.now) c.before.answer.given.0.0.n d.check_with-answer.last.1.0
+    Decoded (tables d.before.before.before.args.sheet.now) c.in-Accepted.sizes.n d.check_with-answer.new.records
 decoded_at c = records_left (accepted_at c) (checked-at c).check_with-answer.ensures.1
 
 participants-by-requires : tie.Need-participants_by-requires

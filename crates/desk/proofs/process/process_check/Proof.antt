@@ -37,10 +37,10 @@ returns c =
     refused_told d.before.before.before.args.sheet.now d.check_with-answer.result c.in_default.not-Accepted d.check_with-answer.ensures.0
 
 abbrev checked-at : tie.In-Accepted → tie.After-check_with-answer
-checked-at c = c.before.before.before.before
+checked-at c = c.before.before
 
-accepted_at : (c : tie.In-Accepted) → AcceptedSheet (checked-at c).before.before.before.args.sheet.now c.before.answer.given.0.0
-accepted_at c = check_accepted _ _ _ c.before.answer.given.1 (checked-at c).check_with-answer.ensures.0
+accepted_at : (c : tie.In-Accepted) → AcceptedSheet (checked-at c).before.before.before.args.sheet.now c.in-Accepted.sizes
+accepted_at c = check_accepted _ _ _ c.in-Accepted.is (checked-at c).check_with-answer.ensures.0
 
 offence-at-requires : tie.Need-offence_at-requires
 offence-at-requires c κs =

@@ -31,8 +31,8 @@ returns c =
     let made = c.before.before in
     let d = made.before.before in
     let s = start-at d in
-    packed_told s.args.sheet.now _ _ s.args.sizes _ (given d) made.pack.new.pack-requires.1.0 made.pack.result
-    (λ T i p w. made.pack.ensures T i p w s.pre.2.zeros)
+    packed_told s.args.sheet.now _ _ s.args.sizes _ (given d) made.pack.new.packed made.pack.result
+    (λ T i p w. made.pack.ensures T i p w s.requires.2.zeros)
 
 pub pack_sheet_spec : {M : Type 1} → statement M
 pack_sheet_spec = tie.close (tie.spec (λ c κs. search rules) pack-requires (λ c. search rules) returns)

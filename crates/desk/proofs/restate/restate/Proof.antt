@@ -31,12 +31,12 @@ returns c =
     restate_refused b a.out.now told (trailer_verdict b accepted) stop (trailer_verdict_fact b told c.in_default.not-Accepted stop)
 
 abbrev read_at : tie.In-Accepted → tie.After-read_trailer-read
-read_at c = c.before.before.before
+read_at c = c.before
 
 judge-tables-requires : tie.Need-judge_tables-judged-requires
 judge-tables-requires c κs =
     let k = c.before.before in
-    (ap outcome_of (sym k.before.read.given.1) ∙ (read_at k).read_trailer-read.ensures, refl, refl)
+    (ap outcome_of (sym k.in-Accepted.is) ∙ (read_at k).read_trailer-read.ensures, refl, refl)
 
 abbrev judged-start : tie.After-judge_tables-judged → tie.Start
 judged-start c = start-at (read_at c.before.before.before)
@@ -53,17 +53,17 @@ returns-2 c =
     restate_refused b a.out.now told (verdict b) stop stop.verdict_told
 
 abbrev judged-at : tie.In-Accepted-judged → tie.After-judge_tables-judged
-judged-at c = c.before.before.before.before.before
+judged-at c = c.before.before.before
 
 -- the sheet that the check let pass
-sheet_at : (c : tie.In-Accepted-judged) → AcceptedSheet (judged-start (judged-at c)).args.sheet.now c.before.judged.given.0.0
+sheet_at : (c : tie.In-Accepted-judged) → AcceptedSheet (judged-start (judged-at c)).args.sheet.now c.in-Accepted-judged.known
 sheet_at c =
-    accepted_sheet (judged-start (judged-at c)).args.sheet.now c.before.judged.given.0.0
-    (ap outcome_of (sym c.before.judged.given.1) ∙ (judged-at c).judge_tables-judged.ensures.0.answer_told)
+    accepted_sheet (judged-start (judged-at c)).args.sheet.now c.in-Accepted-judged.known
+    (ap outcome_of (sym c.in-Accepted-judged.is) ∙ (judged-at c).judge_tables-judged.ensures.0.answer_told)
 
 -- its decoded records
 decoded_at : (c : tie.In-Accepted-judged)
-    → Decoded (tables (judged-start (judged-at c)).args.sheet.now) c.before.judged.given.0.0.n (judged-at c).judge_tables-judged.new.1.1.0
+    → Decoded (tables (judged-start (judged-at c)).args.sheet.now) c.in-Accepted-judged.known.n (judged-at c).judge_tables-judged.new.records
 decoded_at c = records_left (sheet_at c) (judged-at c).judge_tables-judged.ensures.1
 
 participants-by-requires : tie.Need-participants_by-requires
@@ -72,21 +72,21 @@ participants-by-requires c κs =
     ((sheet_at k).sizes_read.n_high, (decoded_at k).size, refl)
 
 slice-aggregate-write-restated : tie.Need-slice_bounds-write_restated-end
-slice-aggregate-write-restated c = let r = (sheet_at c.before.before.before.before.before).sizes_read in simp length-take (omega arith)
+slice-aggregate-write-restated c = let r = (sheet_at c.before.before.before.before).sizes_read in simp length-take (omega arith)
 
 step-section-requires : tie.Need-step_section-requires
-step-section-requires c κs = let r = (sheet_at c.before.before.before.before.before).sizes_read in omega arith
+step-section-requires c κs = let r = (sheet_at c.before.before.before.before).sizes_read in omega arith
 
 abbrev known_at : tie.After-step_section → tie.In-Accepted-judged
-known_at c = c.before.before.before.before.before.before
+known_at c = c.before.before.before.before.before
 
 -- and its parts
 given_at : (c : tie.After-step_section)
-    → let k = known_at c in let b = (judged-start (judged-at k)).args.sheet.now in let z = k.before.judged.given.0.0 in
-    SheetGiven b (take z.s b) c.step_section.result.now z c.before.before.before.participants_by.new.1.1.0
+    → let k = known_at c in let b = (judged-start (judged-at k)).args.sheet.now in let z = k.in-Accepted-judged.known in
+    SheetGiven b (take z.s b) c.step_section.result.now z c.participants_by.new.participants
 given_at c =
     let k = known_at c in
-    whole_given _ _ (sheet_at k) _ c.step_section.ensures _ (c.before.before.before.participants_by.ensures _ (decoded_at k))
+    whole_given _ _ (sheet_at k) _ c.step_section.ensures _ (c.participants_by.ensures _ (decoded_at k))
 
 write-restated-requires : tie.Need-write_restated-requires
 write-restated-requires c κs = let d = c.before.before in ((judged-start (judged-at (known_at d))).args.sheet.now, given_at d)

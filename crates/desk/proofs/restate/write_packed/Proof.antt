@@ -29,11 +29,11 @@ abbrev Given : tie.After-pack-count → List ℕ → Type 0
 Given c b = let a = (start-at c.before).args in SheetGiven b a.front.now a.section.now a.sizes a.participants.now
 
 -- what was packed, of each such sheet
-packed_of : (c : tie.After-pack-count) (b : List ℕ) → Given c b → PackedSteps b c.pack-count.new.packed_some.1.0 c.pack-count.result
+packed_of : (c : tie.After-pack-count) (b : List ℕ) → Given c b → PackedSteps b c.pack-count.new.packed c.pack-count.result
 packed_of c b g = packed_told b _ _ _ _ g _ _ (λ T i p w. c.pack-count.ensures T i p w (start-at c.before).requires.1.zeros)
 
 -- and of the one that is known
-packed_some : (c : tie.After-pack-count) → PackedSteps (start-at c.before).requires.0.0 c.pack-count.new.packed_some.1.0 c.pack-count.result
+packed_some : (c : tie.After-pack-count) → PackedSteps (start-at c.before).requires.0.0 c.pack-count.new.packed c.pack-count.result
 packed_some c = packed_of c _ (start-at c.before).requires.0.1
 
 -- L5: its restated steps are few
@@ -66,7 +66,7 @@ returns c b g =
 
 write-sheet-requires : tie.Need-write_sheet-requires
 write-sheet-requires c κs =
-    let left = c.before.before.before.before in
+    let left = c.before.before.before in
     let made = left.before.before.before in
     let p = packed_some made in
     let room = left.if-out-size.false in
@@ -76,10 +76,10 @@ write-sheet-requires c κs =
 returns-2 : tie.Need-returns
 returns-2 c b g =
     let w = c.before.before in
-    let left = w.before.before.before.before.before in
+    let left = w.before.before.before.before in
     let made = left.before.before.before in
     let a = (start-at made.before).args in
-    restate_written b _ _ a.sizes _ g _ _ (packed_of made b g) a.out.now w.write_sheet.new.1.1.1.1.1.0 left.if-out-size.false
+    restate_written b _ _ a.sizes _ g _ _ (packed_of made b g) a.out.now w.write_sheet.new.out left.if-out-size.false
     w.write_sheet.ensures
 
 pub write_packed_spec : {M : Type 1} → statement M

@@ -36,14 +36,14 @@ returns c =
     d.end_sets_with-ended.ensures.0.answer_told
 
 abbrev ended_at : tie.In-Accepted → tie.After-end_sets_with-ended
-ended_at c = c.before.before.before.before
+ended_at c = c.before.before
 
-accepted_at : (c : tie.In-Accepted) → AcceptedSheet (ended_at c).before.before.before.args.sheet.now c.before.answer.given.0.0
-accepted_at c = check_accepted _ _ _ c.before.answer.given.1 (ended_at c).end_sets_with-ended.ensures.0.answer_told
+accepted_at : (c : tie.In-Accepted) → AcceptedSheet (ended_at c).before.before.before.args.sheet.now c.in-Accepted.sizes
+accepted_at c = check_accepted _ _ _ c.in-Accepted.is (ended_at c).end_sets_with-ended.ensures.0.answer_told
 
 -- its decoded records
 decoded_at : (c : tie.In-Accepted) → let d = ended_at c in
-    Decoded (tables d.before.before.before.args.sheet.now) c.before.answer.given.0.0.n d.end_sets_with-ended.last.1.0
+    Decoded (tables d.before.before.before.args.sheet.now) c.in-Accepted.sizes.n d.end_sets_with-ended.new.records
 decoded_at c = records_left (accepted_at c) (ended_at c).end_sets_with-ended.ensures.1
 
 participants-by-requires : tie.Need-participants_by-requires
