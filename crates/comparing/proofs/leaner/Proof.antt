@@ -9,14 +9,14 @@ use Rattle.comparing.proofs.leaner.Tie as tie
 returns : tie.Need-returns-in_default
 returns c =
     let k = c.before.before.check_both-answer in
-    no_section (refused_two _ _ k.result c.before.in_default.not-Accepted k.ensures)
+    no_section (refused_two _ _ k.result c.in_default.not-Accepted k.ensures)
 
 passed_at : (k : tie.In-Accepted)
-    → let a = k.before.before.before.before.args in
-    BothPassed a.first.now a.second.now k.before.answer.given.0.0
+    → let a = k.args in
+    BothPassed a.first.now a.second.now k.in-Accepted.sizes
 passed_at k =
-    let told = k.before.before.before.check_both-answer in
-    both_passed _ _ told.result _ k.before.answer.given.1 told.ensures
+    let told = k.check_both-answer in
+    both_passed _ _ told.result _ k.in-Accepted.is told.ensures
 
 step-section-requires : tie.Need-step_section-requires
 step-section-requires c κs = (passed_at c.before.before).second_accepted.sizes_read.trailer_last

@@ -10,11 +10,11 @@ returns : tie.Need-returns-in_default
 returns c = no_winner (refused_two _ _ c.before.check_both-answer.result c.in_default.not-Accepted c.before.check_both-answer.ensures)
 
 passed_at : (k : tie.In-Accepted)
-    → let a = k.before.before.before.before.args in
-    BothPassed a.first.now a.second.now k.before.answer.given.0.0
+    → let a = k.args in
+    BothPassed a.first.now a.second.now k.in-Accepted.sizes
 passed_at k =
-    let told = k.before.before.before.check_both-answer in
-    both_passed _ _ told.result _ k.before.answer.given.1 told.ensures
+    let told = k.check_both-answer in
+    both_passed _ _ told.result _ k.in-Accepted.is told.ensures
 
 second-leaner-requires : tie.Need-second_leaner-requires
 second-leaner-requires c κs = both_accepted (passed_at c)

@@ -18,20 +18,20 @@ slice-reshare-prefix c = let f = (one_at c).pack_alone-count.ensures.few in sear
 
 slice-aggregate-same-steps : tie.Need-slice_bounds-same_steps-end-2
 slice-aggregate-same-steps c =
-    let m = (one_at c.before).pack_alone-count in
+    let m = (one_at c).pack_alone-count in
     m.ensures.counted ∙ sym (ap length m.ensures.sets)
 
 slice-reshare-prefix-2 : tie.Need-slice_bounds-same_steps-end-3
-slice-reshare-prefix-2 c = let f = (two_at c.before).pack_alone-count2.ensures.few in search rules
+slice-reshare-prefix-2 c = let f = (two_at c).pack_alone-count2.ensures.few in search rules
 
 slice-aggregate-same-steps-2 : tie.Need-slice_bounds-same_steps-end-4
 slice-aggregate-same-steps-2 c =
-    let m = (two_at c.before.before).pack_alone-count2 in
+    let m = (two_at c).pack_alone-count2 in
     m.ensures.counted ∙ sym (ap length m.ensures.sets)
 
 returns : tie.Need-returns
 returns c =
-    let both = c.before.before.before in
+    let both = c.before in
     c.same_steps.ensures
     ∙ ap₂ same_numbers (one_at both).pack_alone-count.ensures.sets (two_at both).pack_alone-count2.ensures.sets
 

@@ -28,21 +28,21 @@ returns-3 c =
 
 slice-aggregate-same-bytes : tie.Need-slice_bounds-same_bytes-end
 slice-aggregate-same-bytes c =
-    let p = start-at c.before.before.before.before.before.before.before in
-    front_size p.args.first.now p.args.sizes p.args.sizes.s p.pre.0 refl
+    let p = start-at c.before.before.before.before.before.before in
+    front_size p.args.first.now p.args.sizes p.args.sizes.s p.requires.0 refl
 
 slice-aggregate-same-bytes-2 : tie.Need-slice_bounds-same_bytes-end-2
 slice-aggregate-same-bytes-2 c =
-    let p = start-at c.before.before.before.before.before.before.before.before in
-    front_size p.args.second.now p.args.sizes2 p.args.sizes.s p.pre.1 c.before.before.if-s-sizes2.false
+    let p = start-at c.before.before.before.before.before.before in
+    front_size p.args.second.now p.args.sizes2 p.args.sizes.s p.requires.1 c.if-s-sizes2.false
 
 returns-4 : tie.Need-returns
 returns-4 c =
-    let last = c.before.before.before in
+    let last = c.before in
     let p = start-at last.before.before.before.before.before.before in
     ap not c.same_bytes.ensures
-    ∙ differ_front p.args.first.now p.args.second.now p.args.sizes p.args.sizes2 p.pre.0 p.pre.1
-    last.before.before.before.before.before.if-sizes-sizes2.false last.before.before.if-sizes-sizes2-2.false last.if-s-sizes2.false
+    ∙ differ_front p.args.first.now p.args.second.now p.args.sizes p.args.sizes2 p.requires.0 p.requires.1
+    c.if-sizes-sizes2.false c.if-sizes-sizes2-2.false c.if-s-sizes2.false
 
 pub differ_spec : {M : Type 1} → statement M
 differ_spec =
