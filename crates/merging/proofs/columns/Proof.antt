@@ -26,12 +26,12 @@ returns c =
     (ap outcome_of stop.answer_told) refl
 
 abbrev read_at : tie.In-Accepted → tie.After-read_trailer-read
-read_at c = c.before.before.before
+read_at c = c.before
 
 judge-tables-requires : tie.Need-judge_tables-judged-requires
 judge-tables-requires c κs =
     let k = c.before.before in
-    (ap outcome_of (sym k.before.read.given.1) ∙ (read_at k).read_trailer-read.ensures, refl, refl)
+    (ap outcome_of (sym k.in-Accepted.is) ∙ (read_at k).read_trailer-read.ensures, refl, refl)
 
 abbrev judged-start : tie.After-judge_tables-judged → tie.Start
 judged-start c = start-at (read_at c.before.before.before)
@@ -42,17 +42,17 @@ returns-2 c =
     let b = (judged-start d).args.sheet.now in
     let told = d.judge_tables-judged.result in
     let stop =
-    stopped_by told c.in-Accepted-judged.keys2 (verdict b) (component_count b) (action_count b) (transitions_at b) (steps_at b)
+    stopped_by told c.in_default-judged.not-Accepted (verdict b) (component_count b) (action_count b) (transitions_at b) (steps_at b)
     d.judge_tables-judged.ensures.0.answer_told in
     ColumnsAnswer.sheet_refused stop.number stop.index stop.verdict_told (ap outcome_of stop.answer_told) refl
 
 merge-columns-requires : tie.Need-merge_columns-requires
 merge-columns-requires c κs =
     let k = c.before.before in
-    let d = k.before.before.before.before.before in
+    let d = k.before.before.before in
     let b = (judged-start d).args.sheet.now in
-    let told = accepted_sheet b k.before.judged.given.0.0
-    (ap outcome_of (sym k.before.judged.given.1) ∙ d.judge_tables-judged.ensures.0.answer_told) in
+    let told = accepted_sheet b k.in-Accepted-judged.known
+    (ap outcome_of (sym k.in-Accepted-judged.is) ∙ d.judge_tables-judged.ensures.0.answer_told) in
     (told, records_left told d.judge_tables-judged.ensures.1)
 
 pub columns_spec : {M : Type 1} → statement M

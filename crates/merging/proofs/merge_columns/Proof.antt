@@ -38,10 +38,10 @@ named-at c = c.before.before.before
 
 -- what the reader left
 abbrev heads-at : tie.After-read_columns-read → List ℕ
-heads-at c = c.read_columns-read.new.heads.1.1.0
+heads-at c = c.read_columns-read.new.heads
 
 abbrev ends_at : tie.After-read_columns-read → List ℕ
-ends_at c = c.read_columns-read.new.heads.1.1.1.0
+ends_at c = c.read_columns-read.new.ends
 
 returns : tie.Need-returns-in_default
 returns c =
@@ -55,7 +55,7 @@ returns c =
 -- ---- the columns were read
 
 abbrev read_at : tie.In-Accepted → tie.After-read_columns-read
-read_at c = c.before.before.before.before
+read_at c = c.before.before.before
 
 participants-by-requires : tie.Need-participants_by-requires
 participants-by-requires c κs =
@@ -68,7 +68,7 @@ told_at c = c.before.before
 
 -- the participants of each action
 participants_told : (c : tie.After-participants_by)
-    → let s = start-at (named-at (read_at (told_at c))) in Participants (tables s.args.sheet.now) c.participants_by.new.1.1.0
+    → let s = start-at (named-at (read_at (told_at c))) in Participants (tables s.args.sheet.now) c.participants_by.new.participants
 participants_told c = c.participants_by.ensures _ (start-at (named-at (read_at (told_at c)))).requires.1
 
 -- by the alphabets of the sheet and the participants, which are found
@@ -76,15 +76,15 @@ abbrev Known : tie.After-participants_by → Type 0
 Known c =
     let read = read_at (told_at c) in
     let a = (start-at (named-at read)).args in
-    Found a.sheet.now a.sizes (named-at read).alphabets-alphabets.result.now c.participants_by.new.1.1.0 a.columns.now (heads-at read)
+    Found a.sheet.now a.sizes (named-at read).alphabets-alphabets.result.now c.participants_by.new.participants a.columns.now (heads-at read)
     (ends_at read)
 
 known : (c : tie.After-participants_by) → Known c
 known c =
     let read = read_at (told_at c) in
     let named = named-at read in
-    let k = (start-at named).pre in
-    found_by read.read_columns-read.result _ (told_at c).enum_told.given.1 k.0 (alphabets_told named) (participants_told c)
+    let k = (start-at named).requires in
+    found_by read.read_columns-read.result _ (told_at c).in-Accepted.is k.0 (alphabets_told named) (participants_told c)
     read.read_columns-read.ensures
 
 merge-requires : tie.Need-merge-count-requires
@@ -112,7 +112,7 @@ slice-aggregate-restate-word-2 : tie.Need-slice_bounds-restate_word-end-2
 slice-aggregate-restate-word-2 c =
     let made = merged-at c.before.before.before in
     let few = made.merge-count.ensures.few in
-    let whole = made.merge-count.kept.1.1.1.1.1.0 in
+    let whole = made.merge-count.auto.section in
     simp length-take (omega arith)
 
 restate-word-requires : tie.Need-restate_word-requires

@@ -42,7 +42,7 @@ ran-start c = start-at c.before.before
 -- the run is that over the tables of the sheet
 run_at : (c : tie.After-run_from_start-run)
     → let a = (ran-start c).args in RunFromStart (tables a.sheet.now) a.sizes (steps_in a.section.now) c.run_from_start-run.result
-    c.run_from_start-run.new.held.1.1.1.0
+    c.run_from_start-run.new.held
 run_at c = c.run_from_start-run.ensures _ (system_at (ran-start c))
 
 returns : tie.Need-returns-in_default
@@ -53,33 +53,33 @@ returns c =
     (ap outcome_of c.refuse.ensures) refl
 
 abbrev told-ran : tie.In-Accepted → tie.After-run_from_start-run
-told-ran c = c.before.before.before
+told-ran c = c.before.before
 
 slice-aggregate-write-restated : tie.Need-slice_bounds-write_restated-end
-slice-aggregate-write-restated c = let r = (ran-start (told-ran c.before)).requires.0.sheet.sizes_read in simp length-take (omega arith)
+slice-aggregate-write-restated c = let r = (ran-start (told-ran c)).requires.0.sheet.sizes_read in simp length-take (omega arith)
 
 -- the word runs
 fine_at : (c : tie.In-Accepted)
     → let a = (ran-start (told-ran c)).args in let T = tables a.sheet.now in first_fault T (start T) 0 (steps_in a.section.now) ≡ none
-fine_at c = let ran = told-ran c in run_fine (run_at ran) c.enum_told.given.1
+fine_at c = let ran = told-ran c in run_fine (run_at ran) c.in-Accepted.is
 
 -- the sheet with it, in parts
 parts_at : (c : tie.In-Accepted)
     → let a = (ran-start (told-ran c)).args in
     SheetGiven (with_steps a.sheet.now (steps_in a.section.now)) (take a.sizes.s a.sheet.now)
     a.section.now a.sizes a.participants.now
-parts_at c = let s = ran-start (told-ran c) in word_parts s.pre.0 (fine_at c) s.pre.1
+parts_at c = let s = ran-start (told-ran c) in word_parts s.requires.0 (fine_at c) s.requires.1
 
 write-restated-requires : tie.Need-write_restated-requires
 write-restated-requires c κs =
-    let d = c.before.before in
+    let d = c.before in
     let a = (ran-start (told-ran d)).args in
     (with_steps a.sheet.now (steps_in a.section.now), parts_at d)
 
 returns-2 : tie.Need-returns
 returns-2 c =
     let w = c.before.before in
-    let d = w.before.before.before in
+    let d = w.before.before in
     let a = (ran-start (told-ran d)).args in
     WordAnswer.runs (fine_at d) (w.write_restated.ensures (with_steps a.sheet.now (steps_in a.section.now)) (parts_at d))
 

@@ -2,7 +2,7 @@
 -- Assumes nothing.
 use native.Mathlib.Omega.{arith}
 use borrow.Author.Rules.{rules}
-use Rattle.sets.proofs.Bools.{not_both, not_true, not_false}
+use Rattle.sets.proofs.Bools.{not_both}
 use Rattle.merging.proofs.legible.Ends.{column_short, column_not_own, column_there}
 use Rattle.merging.proofs.legible.column_end.Statement.{statement}
 use Rattle.merging.proofs.legible.column_end.Tie as tie
@@ -21,14 +21,14 @@ returns-3 c =
     let a = c.before.before.before.before.before.before.before.args in
     let e = c.before.before.before.before.number2-count.ensures.0 in
     column_not_own a.columns.now a.at a.alphabet _ (omega arith)
-    (λ own. not_both (c.before.labels_own.ensures.1 own) ((not_true _).0 c.if-not-labels_own.true))
+    (λ own. not_both (c.before.labels_own.ensures.1 own) c.if-not-labels_own.true)
 
 returns-4 : tie.Need-returns
 returns-4 c =
     let a = c.before.before.before.before.before.before.before.args in
     let e = c.before.before.before.before.number2-count.ensures.0 in
     column_there a.columns.now a.at a.alphabet _ (omega arith) (omega arith)
-    (c.before.labels_own.ensures.0 ((not_false _).0 c.if-not-labels_own.false))
+    (c.before.labels_own.ensures.0 c.if-not-labels_own.false)
 
 pub column_end_spec : {M : Type 1} → statement M
 column_end_spec =

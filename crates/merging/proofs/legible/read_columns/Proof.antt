@@ -47,7 +47,7 @@ loop-again c =
     let l = c.before.before.before.before in
     let s = l.before.before.before.before in
     read_more _ _ _ l.loop-j.heads l.loop-j.ends l.loop-j.at l.loop-j.j l.loop-j.invariant (omega arith) _ s.before.requires.0
-    (λ i. (s.shared-slice-known.given i).fits) (c.before.column_end-end.ensures.found c.if-end-eq0.false)
+    (λ i. (s.shared_slice_known-1.given i).fits) (c.before.column_end-end.ensures.found c.if-end-eq0.false)
 
 -- ---- all columns are read
 

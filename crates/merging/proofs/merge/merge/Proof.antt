@@ -30,7 +30,7 @@ show-all-requires c κs = let s = c.before.before.before.before.before.before in
 
 loop-holds : tie.Need-loop-ready-init invariant-loop decreases-loop
 loop-holds c =
-    so_far_none _ _ _ _ _ _ _ c.before.before.before.before.before.before.before.before.requires.0 c.before.show_all-ready.ensures
+    so_far_none _ _ _ _ _ _ _ c.requires.0 c.before.show_all-ready.ensures
 
 slice-aggregate-take-ready : tie.Need-slice_bounds-take_ready-end invariant-loop decreases-loop
 slice-aggregate-take-ready c = let size = c.before.before.before.loop-ready.invariant.shown.size in search rules
@@ -48,7 +48,7 @@ abbrev turn_at : tie.After-with invariant-loop decreases-loop → tie.At-loop-re
 turn_at c = c.before.before.before.before.before.before.before.before.before
 
 abbrev start-at : tie.After-with invariant-loop decreases-loop → tie.Start invariant-loop decreases-loop
-start-at c = (turn_at c).before.before.before.before.before.before.before.before.before.before
+start-at c = (turn_at c).before.before.before.before.before.before.before.before.before
 
 -- there is room for one step more
 room_at : (c : tie.After-with invariant-loop decreases-loop) → (turn_at c).loop-ready.k < most_steps
@@ -87,7 +87,7 @@ lent_at c = length (turn_at c).loop-ready.section - place_at c
 -- the section keeps its length
 sized : (c : tie.After-slice_known-in-loop-ready-2-1 invariant-loop decreases-loop)
     → length (put_mid (place_at c.before.before.before.before) (lent_at c.before.before.before.before)
-    (turn_at c.before.before.before.before).loop-ready.section c.before.before.put8.new.same_length.0)
+    (turn_at c.before.before.before.before).loop-ready.section c.before.before.put8.new.out)
     ≡ length (turn_at c.before.before.before.before).loop-ready.section
 sized c = search rules
 
@@ -106,7 +106,7 @@ loop-again c =
 same_length : tie.Need-shape_of-heads invariant-loop decreases-loop
 same_length c =
     c.before.loop-ready.invariant.lined.heads_size
-    ∙ sym c.before.before.before.before.before.before.before.before.before.before.requires.0.heads_size
+    ∙ sym c.before.before.requires.0.heads_size
 
 same-length-2 : tie.Need-shape_of-section invariant-loop decreases-loop
 same-length-2 c = c.before.loop-ready.invariant.size
