@@ -21,7 +21,7 @@
 
    Stack. OATMIST_STACK bytes serve every call: no sheet, product or columns need more. So a thread with a stack of 256 KiB always serves.
    Measured on x86-64, in KiB, for small and middle sheets, and behind the slash for the largest: version 1 / 1, rows 3 / 3, check, process,
-   end_sets, winner, leaner, figure and restate 25 / 83, stuck 26 / 84, columns 34 / 92, same_work 41 / 99, report 50 / 108. A sheet
+   end_sets, winner and leaner 25 / 83, figure and restate 25 / 84, stuck 26 / 84, columns 34 / 92, same_work 41 / 99, report 50 / 108. A sheet
    is small or middle here where its components times its actions, and for each component the actions it has in some step times one more
    than its states, make at most 1,280 together. */
 #ifndef OATMIST_H

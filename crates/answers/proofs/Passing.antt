@@ -2,14 +2,10 @@
 -- the sizes.
 -- Assumes nothing.
 use mathlib.Core.Path.{◌≡◌, refl, ap, ap₂, ◌∙◌}
-use mathlib.Core.Logic.{inl, inr}
 use mathlib.Core.List.{List, [], ◌∷◌}
 use Prim.Native.Nat.{ℕ}
 use native.Mathlib.Omega.{arith}
-use denote.Enum.Declared
-use types.Run.{OneOf}
 use Rattle.sheet.specs.Verdict.{Verdict, accepted, refused}
-use Rattle.answers.specs.contracts.Answer as enum
 use Rattle.answers.specs.declared.Sizes.{Sizes}
 use Rattle.answers.specs.declared.Answer.{Answer}
 use Rattle.answers.specs.declared.Answer.TheVariants.{Accepted, Given, Refused}
@@ -17,11 +13,11 @@ use Rattle.answers.specs.Outcomes.{Outcome, given, refused as refused_by, values
 
 -- what is known where `let Answer::Accepted(..) = a else` goes on with the else
 abbrev pub NotAccepted : Answer → Type 0
-NotAccepted a = OneOf (1 ∷ 2 ∷ []) (Declared.tag_of enum.the_type a)
+NotAccepted a = (z : Sizes) → ¬ (a ≡ Accepted z)
 
 -- what is known where `let Answer::Refused { .. } = a else` goes on with the else
 abbrev pub NotRefused : Answer → Type 0
-NotRefused a = OneOf (0 ∷ 1 ∷ []) (Declared.tag_of enum.the_type a)
+NotRefused a = (k i s : ℕ) → ¬ (a ≡ Refused k i s)
 
 -- the refusal that an answer is
 pub record IsRefusal (a : Answer) (v : Verdict) : Type 0 where
@@ -31,7 +27,7 @@ pub record IsRefusal (a : Answer) (v : Verdict) : Type 0 where
   pub answer_told : a ≡ Refused number index 0
 
 pub stopped_by : (a : Answer) → NotAccepted a → (v : Verdict) (n m t s : ℕ) → outcome_of a ≡ after v (given (n ∷ m ∷ t ∷ s ∷ [])) → IsRefusal a v
-stopped_by (Accepted z) h v n m t s e = elim h [ inl q ↦ absurd (omega arith) | inr q ↦ absurd (omega arith) ]
+stopped_by (Accepted z) h v n m t s e = absurd (h z refl)
 stopped_by (Given y) h (refused k i) n m t s e = let z : ◌≡◌ {A = ℕ} 0 1 = cc in absurd (omega arith)
 stopped_by (Given y) h accepted n m t s e = let z : ◌≡◌ {A = ℕ} 0 1 = cc in absurd (omega arith)
 stopped_by (Refused k i w) h (refused l j) n m t s e = record { number = l; index = j; verdict_told = refl; answer_told = cc }

@@ -184,9 +184,7 @@ worked =
     ++ (append_all (replicate 5 (text_of "step 0 1\nstep 2\n"))
     ++ text_of "step 0 1\nend 0 1\nend 1 1 2\n")))
     ∷ row (given (report widest_sheet))
-    (given
-    (text_of "accepted 1 1 10 1\nstep 63\nend 0 0\nend 1 0\nend 2 0\nend 3 0\nend 4 0\nend 5 0\nend 6 0\nend 7 0\n"
-    ++ text_of "end 8 0\nend 9 0\nend 10 0\nend 11 0\nend 12 0\nend 13 0\nend 14 0\nend 15 31\n"))
+    (given (text_of "accepted 1 1 10 1\nstep 63\nend 0 0\nend 1 0\nend 2 0\nend 3 0\nend 4 0\nend 5 0\nend 6 0\nend 7 0\nend 8 0\nend 9 0\nend 10 0\nend 11 0\nend 12 0\nend 13 0\nend 14 0\nend 15 31\n"))
     ∷ row (given (report full_sheet))
     (given
     (text_of "accepted 2 1 160 0\nstep 0 1 2 3 4 5 6 7 8 9 10 11 12 13 14 15\n"

@@ -103,6 +103,7 @@ joined_short f g (i ∷ js) h =
 
 joined_shorter : (f g : ℕ → List ℕ) (js : List ℕ) → ((j : ℕ) → Memᴰ j js → length (f j) ≤ length (g j))
     → {k : ℕ} → Memᴰ k js → length (f k) < length (g k) → length (append_all (map f js)) < length (append_all (map g js))
+joined_shorter f g [] h {k = k} x3 less = elim x3 [ ]
 joined_shorter f g (i ∷ js) h (Memᴰ.head e) less =
     let here : length (f i) < length (g i) = rw e at less in
     let later = joined_short f g js (λ j m. h j (Memᴰ.tail m)) in

@@ -1,6 +1,7 @@
 // Two sheets given together: whether they do the same work, and which of them is leaner. Each call takes any bytes and always answers;
 // what it answers is fixed by a definition of crates/answers.
 #![tactic(auto)]
+
 mod both;
 mod restated;
 mod tables;

@@ -1,7 +1,6 @@
 // 10 and 11: the steps that are refused for themselves, whatever is held before them.
 ghost use Rattle.std.specs.Prelude.{◌≡◌, ◌≤◌, length};
 ghost use Rattle.systems.specs.Tables.{Tables};
-ghost use Rattle.sheet.specs.Bounds.{most_actions};
 ghost use Rattle.sheet.specs.Sections.{steps_in, Alphabets};
 ghost use Rattle.machine.specs.flaws.Flaws.{flaw_of, IsFirstFlaw};
 
@@ -16,7 +15,7 @@ pub struct FirstFlaw {
 
 // 10 or 11 of a step, the lowest that holds; 0 where neither does.
 fn flaw_of(alphabets: &[u64], n: usize, m: usize, step: u64) -> u64
-    requires { (n ≤ length alphabets.now) × (m ≤ most_actions) }
+    requires { (n ≤ length alphabets.now) × (m ≤ 64) }
     ensures { (T : Tables) → Alphabets T n alphabets.now → T.actions ≡ m → result ≡ flaw_of T step }
 {
     if sets::misses(step, m as u64) {
@@ -30,7 +29,7 @@ fn flaw_of(alphabets: &[u64], n: usize, m: usize, step: u64) -> u64
 
 // The first flaw of the steps of a section.
 pub fn first_flaw(steps: &[u8], alphabets: &[u64], n: usize, m: usize) -> FirstFlaw
-    requires { (n ≤ length alphabets.now) × (m ≤ most_actions) }
+    requires { (n ≤ length alphabets.now) × (m ≤ 64) }
     ensures { (T : Tables) → Alphabets T n alphabets.now → T.actions ≡ m → IsFirstFlaw T (steps_in steps.now) result }
 {
     let count = steps.len() / 8;

@@ -3,14 +3,19 @@
 //
 // The buffer is longer than any sheet, so longer input is refused for its length whatever follows.
 #![tactic(auto)]
+
 mod stream;
 
 ghost use Rattle.std.specs.Prelude.{◌≡◌, ◌≤◌, length, take};
-ghost use Rattle.io.specs.Counts.{IsPrefixLen};
 ghost use Rattle.answers.specs.Report.{report, report_room};
-ghost use Rattle.mark.specs.Streams.{bytes_read};
+ghost use Rattle.mark.specs.Streams.{IsPrefixLen, bytes_read};
 
 use oatmist::Answer;
+use std::env::{Env, FillError};
+use std::fmt::InlineText;
+use std::fs::{Files, OpenOptions};
+use std::io;
+use std::io::{Eprint, Print, Write};
 use stream::{Input, Output};
 
 // Puts what is to be written into the front of the text: the report of the first n bytes of the buffer, which are what was read. Answers
@@ -27,36 +32,73 @@ fn put_report(n: usize, sheet: &[u8], text: &mut [u8]) -> usize
     size as usize
 }
 
+// Whether the program was called with an argument.
+fn has_argument(rt: &impl Env) -> bool {
+    let mut word = [0u8; 64];
+    !matches!(rt.arg(1, &mut word), Err(FillError::NotPresent))
+}
+
+// Writes the word on descriptor 3, which is opened anew by its name. It is opened for reading too: opening a pipe for writing alone waits
+// for a reader, and there may be none.
+fn write_told(rt: &impl Files) -> io::Result<()> {
+    let mut told = OpenOptions::new()
+        .read(true)
+        .append(true)
+        .open(rt, "/proc/self/fd/3")?;
+    told.write_all(b"written\n")
+}
+
 // Tells that the whole answer was written, on descriptor 3, to a caller that asked for it by an argument. Only who has written as many
 // bytes as the report of what was read has may tell so.
-fn tell_written(put: usize, input: Input, sheet: &[u8])
+fn tell_written<R: Env + Files>(rt: &R, put: usize, input: Input, sheet: &[u8])
     requires { put ≡ length (report (bytes_read input sheet.now)) }
 {
-    if os::arg_count() > 1 {
-        libc::write(3, b"written\n");
+    if has_argument(rt) {
+        let _ = write_told(rt);
     }
 }
 
-// Writes the text, which must be the report of the bytes that reading gave, and tells that it is written.
-fn give_answer(input: Input, sheet: &[u8], text: &[u8])
-    requires { text.now ≡ report (bytes_read input sheet.now) }
-{
-    let output = stream::write_to_end(1, text);
-    let Output::Whole(put) = output else {
-        os::fail(b"mark: standard output");
-        return;
-    };
-    tell_written(put, input, sheet);
+// The reason of an error in the system's words, without its number, which follows in brackets.
+fn words_of(told: &str) -> &str {
+    match told.split_once(" (os error ") {
+        Some((words, _)) => words,
+        None => told,
+    }
 }
 
-fn main() {
-    let mut sheet = io::large_buffer();
-    let input = stream::read_to_end(0, &mut sheet);
-    let Input::Whole(n) = input else {
-        os::fail(b"mark: standard input");
-        return;
+// Says in one line on standard error what failed, and the reason.
+fn fail(rt: &impl Eprint, what: &str, error: io::Error) {
+    let told = InlineText::<256>::of(error);
+    let reason = words_of(told.as_str());
+    let _ = eprintln!(rt; "mark: {what}: {reason}");
+}
+
+// Writes the text, which must be the report of the bytes that reading gave, and tells that it is written.
+fn give_answer<R: Env + Files + Print + Eprint>(rt: &R, input: Input, sheet: &[u8], text: &[u8])
+    requires { text.now ≡ report (bytes_read input sheet.now) }
+{
+    let output = stream::write_to_end(&mut io::writer(rt), text);
+    let put = match output {
+        Output::Whole(put) => put,
+        Output::Unwritable(error) => {
+            fail(rt, "standard output", error);
+            return;
+        }
     };
-    let mut text = io::large_buffer();
+    tell_written(rt, put, input, sheet);
+}
+
+fn main(rt: HostRuntime) {
+    let mut sheet = [0u8; 65536];
+    let input = stream::read_to_end(&mut rt.stdin(), &mut sheet);
+    let n = match input {
+        Input::Whole(n) => n,
+        Input::Unreadable(error) => {
+            fail(&rt, "standard input", error);
+            return;
+        }
+    };
+    let mut text = [0u8; 65536];
     let size = put_report(n, &sheet, &mut text);
-    give_answer(input, &sheet, &text[..size]);
+    give_answer(&rt, input, &sheet, &text[..size]);
 }

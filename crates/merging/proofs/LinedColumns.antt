@@ -86,7 +86,7 @@ module _ {b : List ℕ} {z : Sizes} {alphabets d : List ℕ} (k : AcceptedSheet 
   -- R18: what the reader refuses is 18, and no columns are there
   pub not_legible : (heads ends : List ℕ) (r : Answer) → NotAccepted r → ColumnsRead d z alphabets heads ends r
       → (r ≡ Refused 18 0 0) × (¬ Legible b d)
-  not_legible heads ends (Accepted w) h read = elim h [ inl q ↦ absurd (omega arith) | inr q ↦ absurd (omega arith) ]
+  not_legible heads ends (Accepted w) h read = absurd (h w refl)
   not_legible heads ends (Given x) h read = absurd read
   not_legible heads ends (Refused k i s) h read = (read.0, λ l. read.1 l.0 (in_filled l.1))
 

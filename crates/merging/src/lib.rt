@@ -1,5 +1,6 @@
 // An execution given by columns, one for each component, restated as a sheet (document 02, request 3).
 #![tactic(auto)]
+
 mod heads;
 mod legible;
 mod merge;

@@ -1,6 +1,7 @@
-// The face of the desk: every public call, and the same calls for C and for languages that call C. For C a slice is passed as a pointer and
-// a length, and the values of an answer go to an array that the caller lends (include/oatmist.h).
+// The face of the desk: every public call, and the same calls as C and languages that call C have them: the values of an answer go to an
+// array that the caller lends. The static library of the crate oatmist_c hands the latter on, each under its name (include/oatmist.h).
 #![tactic(auto)]
+
 mod convention;
 
 ghost use Rattle.oatmist.specs.Calls.{CheckForC, EndSetsForC, ProcessForC, FigureForC, StuckForC, RestateForC, ReportForC};
@@ -18,16 +19,14 @@ pub use report::report;
 pub use rows::rows;
 
 // The verdict: n, m, T and S of an accepted sheet.
-#[unsafe(no_mangle)]
-pub extern "C" fn oatmist_check(sheet: &[u8], answer: &mut [u64]) -> u64
+pub fn oatmist_check(sheet: &[u8], answer: &mut [u64]) -> u64
     ensures { CheckForC sheet.now result answer.old answer.new }
 {
     convention::hand(check(sheet), answer)
 }
 
 // The end sets of sixteen components, 0 for those that the sheet does not have.
-#[unsafe(no_mangle)]
-pub extern "C" fn oatmist_end_sets(sheet: &[u8], ends: &mut [u64]) -> u64
+pub fn oatmist_end_sets(sheet: &[u8], ends: &mut [u64]) -> u64
     ensures { EndSetsForC sheet.now result ends.old ends.new }
 {
     let ended = end_sets(sheet);
@@ -41,85 +40,70 @@ pub extern "C" fn oatmist_end_sets(sheet: &[u8], ends: &mut [u64]) -> u64
 }
 
 // The process check: 0 for yes, or one past the index of the first step that offends.
-#[unsafe(no_mangle)]
-pub extern "C" fn oatmist_process(sheet: &[u8], answer: &mut [u64]) -> u64
+pub fn oatmist_process(sheet: &[u8], answer: &mut [u64]) -> u64
     ensures { ProcessForC sheet.now result answer.old answer.new }
 {
     convention::hand(process_check(sheet), answer)
 }
 
 // Restating: how many bytes were written to `out`.
-#[unsafe(no_mangle)]
-pub extern "C" fn oatmist_restate(sheet: &[u8], out: &mut [u8], answer: &mut [u64]) -> u64
+pub fn oatmist_restate(sheet: &[u8], out: &mut [u8], answer: &mut [u64]) -> u64
     ensures { RestateForC sheet.now out.old result out.new answer.old answer.new }
 {
     convention::hand(restate(sheet, out), answer)
 }
 
 // Same work: 1 for yes, 0 for no.
-#[unsafe(no_mangle)]
-pub extern "C" fn oatmist_same_work(first: &[u8], second: &[u8], answer: &mut [u64]) -> u64
+pub fn oatmist_same_work(first: &[u8], second: &[u8], answer: &mut [u64]) -> u64
     ensures { SameWorkForC first.now second.now result answer.old answer.new }
 {
     convention::hand(same_work(first, second), answer)
 }
 
 // Which sheet is leaner: 0 for the first, 1 for the second.
-#[unsafe(no_mangle)]
-pub extern "C" fn oatmist_winner(first: &[u8], second: &[u8], answer: &mut [u64]) -> u64
+pub fn oatmist_winner(first: &[u8], second: &[u8], answer: &mut [u64]) -> u64
     ensures { WinnerForC first.now second.now result answer.old answer.new }
 {
     convention::hand(winner(first, second), answer)
 }
 
 // The leaner answer: `part` becomes the step section of the leaner sheet, in the caller's own bytes; an empty part for a refused pair.
-#[unsafe(no_mangle)]
-pub extern "C" fn oatmist_leaner<'a>(first: &'a [u8], second: &'a [u8], part: &mut &'a [u8])
+pub fn oatmist_leaner<'a>(first: &'a [u8], second: &'a [u8], part: &mut &'a [u8])
     ensures { LeanerForC first.now second.now part.new.now }
 {
     *part = leaner(first, second);
 }
 
 // The concurrency figure.
-#[unsafe(no_mangle)]
-pub extern "C" fn oatmist_figure(sheet: &[u8], answer: &mut [u64]) -> u64
+pub fn oatmist_figure(sheet: &[u8], answer: &mut [u64]) -> u64
     ensures { FigureForC sheet.now result answer.old answer.new }
 {
     convention::hand(figure_of(sheet), answer)
 }
 
 // A5: stuck: 1 where the end sets enable no action, else 0.
-#[unsafe(no_mangle)]
-pub extern "C" fn oatmist_stuck(sheet: &[u8], answer: &mut [u64]) -> u64
+pub fn oatmist_stuck(sheet: &[u8], answer: &mut [u64]) -> u64
     ensures { StuckForC sheet.now result answer.old answer.new }
 {
     convention::hand(is_stuck(sheet), answer)
 }
 
 // The text that the program prints: it stands in front of `out`, and its length is told.
-#[unsafe(no_mangle)]
-pub extern "C" fn oatmist_report(sheet: &[u8], out: &mut [u8], answer: &mut [u64]) -> u64
+pub fn oatmist_report(sheet: &[u8], out: &mut [u8], answer: &mut [u64]) -> u64
     ensures { ReportForC sheet.now out.old result out.new answer.old answer.new }
 {
     convention::hand(report(sheet, out), answer)
 }
 
 // B6: a product given by rows: how many bytes of its sheet were written to `out`.
-#[unsafe(no_mangle)]
-pub extern "C" fn oatmist_rows(product: &[u8], out: &mut [u8], answer: &mut [u64]) -> u64
+pub fn oatmist_rows(product: &[u8], out: &mut [u8], answer: &mut [u64]) -> u64
     ensures { RowsForC product.now out.old result out.new answer.old answer.new }
 {
     convention::hand(rows(product, out), answer)
 }
 
 // V3: an execution given by columns over the tables of a sheet: how many bytes of the restated sheet were written to `out`.
-#[unsafe(no_mangle)]
-pub extern "C" fn oatmist_columns(
-    sheet: &[u8],
-    columns: &[u8],
-    out: &mut [u8],
-    answer: &mut [u64],
-) -> u64
+pub fn oatmist_columns(sheet: &[u8], columns: &[u8], out: &mut [u8], answer: &mut [u64]) -> u64
     ensures { ColumnsForC sheet.now columns.now out.old result out.new
         answer.old answer.new }
 {
@@ -134,8 +118,7 @@ pub fn version() -> u64
 }
 
 // The same for C.
-#[unsafe(no_mangle)]
-pub extern "C" fn oatmist_version() -> u64
+pub fn oatmist_version() -> u64
     ensures { VersionTold result }
 {
     version()

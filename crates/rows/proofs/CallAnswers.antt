@@ -1,6 +1,6 @@
 -- B6, O8: the call's answer and output: 15, 16 or 17 as the reader told it, else 13, else the sheet that the product becomes.
 -- Assumes nothing.
-use mathlib.Core.Path.{◌≡◌, sym, ap, ◌∙◌}
+use mathlib.Core.Path.{◌≡◌, refl, sym, ap, ◌∙◌}
 use mathlib.Core.Logic.{inl, inr}
 use mathlib.Core.List.{List}
 use Prim.Native.Nat.{ℕ, ◌+◌, ◌≤◌, ◌<◌}
@@ -31,7 +31,7 @@ refused_right b out k i s e =
 
 -- O8: what the reader refuses, the call refuses, whatever the room
 pub rows_refused : (b out begins alphabets : List ℕ) (r : Answer) → NotAccepted r → Judged b begins alphabets r → RowsAnswer b out r out
-rows_refused b out begins alphabets (Accepted z) h j = elim h [ inl q ↦ absurd (omega arith) | inr q ↦ absurd (omega arith) ]
+rows_refused b out begins alphabets (Accepted z) h j = absurd (h z refl)
 rows_refused b out begins alphabets (Given x) h j = absurd j
 rows_refused b out begins alphabets (Refused k i s) h j = refused_right b out k i s (j (length out))
 

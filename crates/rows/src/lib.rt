@@ -1,5 +1,6 @@
 // Products given by rows, turned into sheets without steps (document 02, request 1).
 #![tactic(auto)]
+
 mod components;
 mod entries;
 mod judge;

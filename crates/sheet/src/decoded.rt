@@ -1,9 +1,8 @@
-// The decoded records of a sheet's components: an array that the reader fills, and whoever runs the sheet looks things up in. Where its
-// entries stand is known here alone.
-ghost use Rattle.std.specs.Prelude.{◌≡◌, ℕ, ◌*◌, ◌<◌, length};
-ghost use Rattle.systems.specs.Tables.{Tables};
+// The decoded records of a sheet's components: an array that the reader fills, and whoever runs the sheet looks things up in. Where its entries stand is
+// known here alone.
+ghost use Rattle.std.specs.Prelude.{◌≡◌, ◌*◌, ◌<◌, length, take, drop};
 ghost use Rattle.sheet.specs.Bounds.{most_components};
-ghost use Rattle.sheet.specs.Sections.{states_at, initial_at, alphabet_at, base_at, EntriesPut, Decoded, Alphabets};
+ghost use Rattle.sheet.specs.Sections.{states_at, initial_at, alphabet_at, base_at, EntriesPut};
 
 // Puts the four entries of component j into their places.
 pub fn put(records: &mut [u64], j: usize, states: u64, initial: u64, alphabet: u64, base: u64)
@@ -51,7 +50,7 @@ pub fn base(records: &[u64], j: usize) -> usize
 // The alphabets of all components, side by side.
 pub fn alphabets(records: &[u64]) -> &[u64]
     requires { length records.now ≡ 4 * most_components }
-    ensures { (length result.now ≡ most_components) × ((T : Tables) (n : ℕ) → Decoded T n records.now → Alphabets T n result.now) }
+    ensures { result.now ≡ take most_components (drop (2 * most_components) records.now) }
 {
     &records[32..48]
 }

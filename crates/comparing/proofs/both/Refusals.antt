@@ -37,7 +37,7 @@ module _ (v : Verdict) (n m t s : ℕ) where
       go a Verdict.accepted h e = e
       go (Answer.Accepted z) (Verdict.refused k i) h e = let z : ◌≡◌ {A = ℕ} 0 1 = cc in absurd (omega arith)
       go (Answer.Given x) (Verdict.refused k i) h e = let z : ◌≡◌ {A = ℕ} 0 1 = cc in absurd (omega arith)
-      go (Answer.Refused l j w) (Verdict.refused k i) h e = elim h [ inl q ↦ absurd (omega arith) | inr q ↦ absurd (omega arith) ]
+      go (Answer.Refused l j w) (Verdict.refused k i) h e = absurd (h l j w refl)
 
   pub second_refused : (a : Answer) (k i w : ℕ) → a ≡ Answer.Refused k i w → outcome_of a ≡ on_sheet 0 v (given (n ∷ m ∷ t ∷ s ∷ []))
       → refused k i 1 ≡ on_sheet 1 v (given (n ∷ m ∷ t ∷ s ∷ []))
@@ -58,7 +58,7 @@ second_told c a z q e = accepted_sheet c z (go (verdict c) (ap outcome_of (sym q
 stays : (a : Answer) → NotAccepted a → (sheet : ℕ) (v : Verdict) (n m t s : ℕ) → outcome_of a ≡ on_sheet sheet v (given (n ∷ m ∷ t ∷ s ∷ []))
     → (x : Outcome (List ℕ)) → outcome_of a ≡ on_sheet sheet v x
 stays a h sheet (Verdict.refused k i) n m t s e x = e
-stays (Answer.Accepted z) h sheet Verdict.accepted n m t s e x = elim h [ inl q ↦ absurd (omega arith) | inr q ↦ absurd (omega arith) ]
+stays (Answer.Accepted z) h sheet Verdict.accepted n m t s e x = absurd (h z refl)
 stays (Answer.Given y) h sheet Verdict.accepted n m t s e x = let z : ◌≡◌ {A = ℕ} 0 1 = cc in absurd (omega arith)
 stays (Answer.Refused k i w) h sheet Verdict.accepted n m t s e x = let z : ◌≡◌ {A = ℕ} 0 1 = cc in absurd (omega arith)
 
@@ -129,7 +129,7 @@ pub record TwoRefused (b c : List ℕ) (a : Answer) : Type 0 where
   pub two_told : refused number index sheet ≡ of_two b c (sizes_of b)
 
 pub refused_two : (b c : List ℕ) (a : Answer) → NotAccepted a → outcome_of a ≡ of_two b c (sizes_of b) → TwoRefused b c a
-refused_two b c (Answer.Accepted z) h e = elim h [ inl q ↦ absurd (omega arith) | inr q ↦ absurd (omega arith) ]
+refused_two b c (Answer.Accepted z) h e = absurd (h z refl)
 refused_two b c (Answer.Given y) h e =
     let told = ((two_given b c (sizes_of b) (y ∷ [])).0 (sym e)).3 in
     let z : ◌≡◌ {A = ℕ} 0 1 = cc in

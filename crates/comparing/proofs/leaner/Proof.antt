@@ -6,33 +6,33 @@ use borrow.Author.Rules.{rules}
 use Rattle.comparing.proofs.leaner.Statement.{statement}
 use Rattle.comparing.proofs.leaner.Tie as tie
 
-returns : tie.Need-returns
+returns : tie.Need-returns-in_default
 returns c =
-    let k = c.before.before.check_both in
-    no_section (refused_two _ _ k.result c.before.match.keys2 k.ensures)
+    let k = c.before.before.check_both-answer in
+    no_section (refused_two _ _ k.result c.in_default.not-Accepted k.ensures)
 
-passed_at : (k : tie.After-known-told)
-    → let a = k.before.before.before.before.before.before.args in
-    BothPassed a.first.now a.second.now k.before.answer.given.0.0
+passed_at : (k : tie.In-Accepted)
+    → let a = k.args in
+    BothPassed a.first.now a.second.now k.in-Accepted.sizes
 passed_at k =
-    let told = k.before.before.before.check_both in
-    both_passed _ _ told.result _ k.before.answer.given.1 told.ensures
+    let told = k.check_both-answer in
+    both_passed _ _ told.result _ k.in-Accepted.is told.ensures
 
-step-section-requires : tie.Need-step-section-requires
+step-section-requires : tie.Need-step_section-requires
 step-section-requires c κs = (passed_at c.before.before).second_accepted.sizes_read.trailer_last
 
-returns-2 : tie.Need-returns-2
+returns-2 : tie.Need-returns-then-second_leaner
 returns-2 c =
     let w = c.before.before in
-    section_second (passed_at w.before) _ w.second-leaner.result c.before.if1.true w.second-leaner.ensures c.step-section.ensures
+    section_second (passed_at w.before) _ w.second_leaner.result c.before.if-second_leaner.true w.second_leaner.ensures c.step_section.ensures
 
-step-section-requires-2 : tie.Need-step-section-requires-2
+step-section-requires-2 : tie.Need-step_section-requires-2
 step-section-requires-2 c κs = (passed_at c.before.before).first_accepted.sizes_read.trailer_last
 
-returns-3 : tie.Need-returns-3
+returns-3 : tie.Need-returns
 returns-3 c =
     let w = c.before.before in
-    section_first (passed_at w.before) _ w.second-leaner.result c.before.if1.false w.second-leaner.ensures c.step-section2.ensures
+    section_first (passed_at w.before) _ w.second_leaner.result c.before.if-second_leaner.false w.second_leaner.ensures c.step_section-2.ensures
 
 pub leaner_spec : {M : Type 1} → statement M
 leaner_spec =

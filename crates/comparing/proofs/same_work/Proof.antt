@@ -6,20 +6,20 @@ use borrow.Author.Rules.{rules}
 use Rattle.comparing.proofs.same_work.Statement.{statement}
 use Rattle.comparing.proofs.same_work.Tie as tie
 
-returns : tie.Need-returns
-returns c = no_work (refused_two _ _ c.before.check_both.result c.match.keys2 c.before.check_both.ensures)
+returns : tie.Need-returns-in_default
+returns c = no_work (refused_two _ _ c.before.check_both-answer.result c.in_default.not-Accepted c.before.check_both-answer.ensures)
 
-passed_at : (k : tie.After-known-told)
-    → let a = k.before.before.before.before.before.before.args in
-    BothPassed a.first.now a.second.now k.before.answer.given.0.0
+passed_at : (k : tie.In-Accepted)
+    → let a = k.args in
+    BothPassed a.first.now a.second.now k.in-Accepted.sizes
 passed_at k =
-    let told = k.before.before.before.check_both in
-    both_passed _ _ told.result _ k.before.answer.given.1 told.ensures
+    let told = k.check_both-answer in
+    both_passed _ _ told.result _ k.in-Accepted.is told.ensures
 
-same-restated-requires : tie.Need-same-restated-requires
+same-restated-requires : tie.Need-same_restated-requires
 same-restated-requires c κs = both_accepted (passed_at c)
 
-returns-2 : tie.Need-returns-2
+returns-2 : tie.Need-returns
 returns-2 c = work_told (passed_at c.before.before) c.before.same_restated.result _ c.bit.ensures c.before.same_restated.ensures
 
 pub same_work_spec : {M : Type 1} → statement M

@@ -20,7 +20,7 @@ use Rattle.merging.proofs.RunWords.{sheet_system, run_fine, run_faulty, word_par
 use Rattle.merging.proofs.restate_word.Statement.{statement}
 use Rattle.merging.proofs.restate_word.Tie as tie
 
-abbrev start-at : tie.After-run-from-start-arg → tie.Start
+abbrev start-at : tie.After-run_from_start-arg-1 → tie.Start
 start-at c = c.before.before.before.before.before.before
 
 -- the system that the machine is handed
@@ -28,60 +28,60 @@ system_at : (k : tie.Start) → let a = k.args in SystemOf (tables a.sheet.now) 
     (take (a.sizes.s - a.sizes.t) (drop a.sizes.t a.sheet.now))
 system_at k = sheet_system k.requires.0.sheet k.requires.0.decoded
 
-run-from-start-requires : tie.Need-run-from-start-requires
+run-from-start-requires : tie.Need-run_from_start-run-requires
 run-from-start-requires c κs =
     let k = start-at c.before in
-    let r = k.pre.0.sheet.sizes_read in
+    let r = k.requires.0.sheet.sizes_read in
     (record { tables = _; given = system_at k }, omega arith, refl)
 
 -- ---- after the run
 
-abbrev ran-start : tie.After-run-from-start → tie.Start
+abbrev ran-start : tie.After-run_from_start-run → tie.Start
 ran-start c = start-at c.before.before
 
 -- the run is that over the tables of the sheet
-run_at : (c : tie.After-run-from-start)
-    → let a = (ran-start c).args in RunFromStart (tables a.sheet.now) a.sizes (steps_in a.section.now) c.run-from-start.result
-    c.run-from-start.new.1.1.1.1.0
-run_at c = c.run-from-start.ensures _ (system_at (ran-start c))
+run_at : (c : tie.After-run_from_start-run)
+    → let a = (ran-start c).args in RunFromStart (tables a.sheet.now) a.sizes (steps_in a.section.now) c.run_from_start-run.result
+    c.run_from_start-run.new.held
+run_at c = c.run_from_start-run.ensures _ (system_at (ran-start c))
 
-returns : tie.Need-returns
+returns : tie.Need-returns-in_default
 returns c =
     let stop = c.before in
     let ran = stop.before.before in
-    WordAnswer.faulty (run_faulty (run_at ran) stop.match.keys2)
+    WordAnswer.faulty (run_faulty (run_at ran) stop.in_default.not-Accepted)
     (ap outcome_of c.refuse.ensures) refl
 
-abbrev told-ran : tie.After-enum-told → tie.After-run-from-start
-told-ran c = c.before.before.before
+abbrev told-ran : tie.In-Accepted → tie.After-run_from_start-run
+told-ran c = c.before.before
 
-slice-aggregate-write-restated : tie.Need-slice-aggregate-write-restated
-slice-aggregate-write-restated c = let r = (ran-start (told-ran c.before)).requires.0.sheet.sizes_read in simp length-take (omega arith)
+slice-aggregate-write-restated : tie.Need-slice_bounds-write_restated-end
+slice-aggregate-write-restated c = let r = (ran-start (told-ran c)).requires.0.sheet.sizes_read in simp length-take (omega arith)
 
 -- the word runs
-fine_at : (c : tie.After-enum-told)
+fine_at : (c : tie.In-Accepted)
     → let a = (ran-start (told-ran c)).args in let T = tables a.sheet.now in first_fault T (start T) 0 (steps_in a.section.now) ≡ none
-fine_at c = let ran = told-ran c in run_fine (run_at ran) c.enum_told.given.1
+fine_at c = let ran = told-ran c in run_fine (run_at ran) c.in-Accepted.is
 
 -- the sheet with it, in parts
-parts_at : (c : tie.After-enum-told)
+parts_at : (c : tie.In-Accepted)
     → let a = (ran-start (told-ran c)).args in
     SheetGiven (with_steps a.sheet.now (steps_in a.section.now)) (take a.sizes.s a.sheet.now)
     a.section.now a.sizes a.participants.now
-parts_at c = let s = ran-start (told-ran c) in word_parts s.pre.0 (fine_at c) s.pre.1
+parts_at c = let s = ran-start (told-ran c) in word_parts s.requires.0 (fine_at c) s.requires.1
 
-write-restated-requires : tie.Need-write-restated-requires
+write-restated-requires : tie.Need-write_restated-requires
 write-restated-requires c κs =
-    let d = c.before.before in
+    let d = c.before in
     let a = (ran-start (told-ran d)).args in
     (with_steps a.sheet.now (steps_in a.section.now), parts_at d)
 
-returns-2 : tie.Need-returns-2
+returns-2 : tie.Need-returns
 returns-2 c =
     let w = c.before.before in
-    let d = w.before.before.before in
+    let d = w.before.before in
     let a = (ran-start (told-ran d)).args in
-    WordAnswer.runs (fine_at d) (w.write-restated.ensures (with_steps a.sheet.now (steps_in a.section.now)) (parts_at d))
+    WordAnswer.runs (fine_at d) (w.write_restated.ensures (with_steps a.sheet.now (steps_in a.section.now)) (parts_at d))
 
 pub restate_word_spec : {M : Type 1} → statement M
 restate_word_spec =

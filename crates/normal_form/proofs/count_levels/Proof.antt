@@ -55,7 +55,7 @@ loop-again c =
     let step = read.step_at in
     let e = flat_step b turn.loop-k.k step.result read.before.loop-k-test.true step.ensures in (
       omega arith,
-      to_place_rest _ _ _ _ _ _ _ _ turn.loop-k.invariant.1 (members step.result) _ e _ _ counted.ensures counted.auto.1.1.1.0,
+      to_place_rest _ _ _ _ _ _ _ _ turn.loop-k.invariant.1 (members step.result) _ e _ _ counted.ensures counted.auto.last,
     )
 
 returns : tie.Need-returns invariant-loop decreases-loop

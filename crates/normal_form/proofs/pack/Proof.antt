@@ -61,8 +61,8 @@ loop-again c =
     let e = flat_step b turn.k step.result c.before.before.before.before.before.before.before.loop-k-test.true step.ensures in
     let placed = c.before.before.before.place_step-steps in (
       omega arith,
-      placed.auto.1.1.1.1.0 ∙ turn.invariant.1,
-      to_place_rest _ _ _ _ _ _ _ _ turn.invariant.2 (members step.result) _ e _ _ placed.ensures placed.auto.1.1.1.0,
+      placed.auto.packed ∙ turn.invariant.1,
+      to_place_rest _ _ _ _ _ _ _ _ turn.invariant.2 (members step.result) _ e _ _ placed.ensures placed.auto.last,
     )
 
 same_length : tie.Need-shape_of-packed invariant-loop decreases-loop

@@ -30,33 +30,30 @@ accepted_told b acc = rw acc refl
 hand-requires : tie.Need-hand-requires
 hand-requires c κs =
     let ended = c.before.before in
-    fits_told ended.end_sets_fact.result.answer _ ended.end_sets_fact.ensures.answer_told
-    (fits_read ended.before.before.before.args.sheet.now _)
+    fits_told ended.end_sets-ended.result.answer _ ended.end_sets-ended.ensures.answer_told
+    (fits_read c.args.sheet.now _)
 
-returns : tie.Need-returns
+returns : tie.Need-returns-in_default
 returns c =
     let made = c.before.before in
-    let arm = made.before.before in
-    let ended = arm.before in
-    let a = ended.end_sets_fact.result.answer in
-    handed_told a _ (refused_told ended.before.before.before.args.sheet.now a arm.match.keys2 ended.end_sets_fact.ensures.answer_told) _ _
+    let ended = made.before.before.before in
+    let a = ended.end_sets-ended.result.answer in
+    handed_told a _ (refused_told c.args.sheet.now a c.in_default.not-Accepted ended.end_sets-ended.ensures.answer_told) _ _
     _
     made.hand.ensures
 
-returns-2 : tie.Need-returns-2
+returns-2 : tie.Need-returns
 returns-2 c =
     let made = c.before.before in
-    let k = made.before.before.before.before in
-    let ended = k.before.before in
-    let b = ended.before.before.before.args.sheet.now in
+    let b = c.args.sheet.now in
     let acc =
-    (told_accepted k.enum_told.given.0.0 (verdict b) (component_count b) (action_count b) (transitions_at b) (steps_at b)
-    (ap outcome_of (sym k.enum_told.given.1) ∙ ended.end_sets_fact.ensures.answer_told)).0
+    (told_accepted c.in-Accepted.field-0 (verdict b) (component_count b) (action_count b) (transitions_at b) (steps_at b)
+    (ap outcome_of (sym c.in-Accepted.is) ∙ c.end_sets-ended.ensures.answer_told)).0
     in
-    subst (λ (o : Outcome (List ℕ)). CAnswer o 0 ended.before.before.before.args.ends.now made.fill.new.1.0) (accepted_told b acc) (
+    subst (λ (o : Outcome (List ℕ)). CAnswer o 0 c.args.ends.now made.fill.new.out) (accepted_told b acc) (
       refl,
-      made.fill.ensures ∙ ap (λ (xs : List ℕ). with_values xs ended.before.before.before.args.ends.now)
-          ended.end_sets_fact.ensures.sets_told,
+      made.fill.ensures ∙ ap (λ (xs : List ℕ). with_values xs c.args.ends.now)
+          c.end_sets-ended.ensures.sets_told,
     )
 
 pub oatmist_end_sets_spec : {M : Type 1} → statement M

@@ -7,13 +7,13 @@ use Rattle.oatmist.proofs.oatmist_process.Tie as tie
 
 hand-requires : tie.Need-hand-requires
 hand-requires c κs =
-    let told = c.before.process-check in
+    let told = c.before.process_check in
     fits_told told.result _ told.ensures (fits_process _)
 
 returns : tie.Need-returns
 returns c =
     let made = c.before.before in
-    let told = made.before.before.process-check in
+    let told = made.before.before.process_check in
     handed_told told.result _ told.ensures _ _ _ made.hand.ensures
 
 pub oatmist_process_spec : {M : Type 1} → statement M

@@ -7,13 +7,13 @@ use Rattle.oatmist.proofs.oatmist_same_work.Tie as tie
 
 hand-requires : tie.Need-hand-requires
 hand-requires c κs =
-    let told = c.before.same_work_fact in
+    let told = c.before.same_work in
     fits_told told.result _ told.ensures (fits_work _ _)
 
 returns : tie.Need-returns
 returns c =
     let made = c.before.before in
-    let told = made.before.before.same_work_fact in
+    let told = made.before.before.same_work in
     handed_told told.result _ told.ensures _ _ _ made.hand.ensures
 
 pub oatmist_same_work_spec : {M : Type 1} → statement M

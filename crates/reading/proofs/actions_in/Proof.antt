@@ -27,30 +27,30 @@ count_more b k x more sum total h e f g =
     let one = ap length (flat_step b k x h e) ∙ length-append (members x) (flat (drop (k + 1) (steps_in b))) in
     omega arith
 
-abbrev invariant-loop : tie.invariant-loop
+abbrev invariant-loop : tie.invariant-loop-k
 invariant-loop section count sum₀ k₀ sum k = (k ≤ count) × (sum ≤ 64 * k) × (sum + actions_from k section ≡ length (flat (steps_in section)))
 
-abbrev decreases-loop : tie.decreases-loop
+abbrev decreases-loop : tie.decreases-loop-k
 decreases-loop section count sum₀ k₀ sum k = count - k
 
-loop-holds : tie.Need-loop-init invariant-loop decreases-loop
+loop-holds : tie.Need-loop-k-init invariant-loop decreases-loop
 loop-holds c = (omega arith, omega arith, zero-add _)
 
-loop-again : tie.Need-loop-preserved invariant-loop decreases-loop
+loop-again : tie.Need-loop-k-preserved invariant-loop decreases-loop
 loop-again c =
     let b = c.before.before.before.before.before.args.section.now in
     let at = c.before.before.before in (
       omega arith,
       omega arith,
-      count_more b at.loop.k c.before.step-at.result c.count.result at.loop.sum _ c.before.before.loop-test.true
-          c.before.step-at.ensures c.count.ensures.0 at.loop.invariant.2,
+      count_more b at.loop-k.k c.before.step_at.result c.count.result at.loop-k.sum _ c.before.before.loop-k-test.true
+          c.before.step_at.ensures c.count.ensures.0 at.loop-k.invariant.2,
     )
 
 returns : tie.Need-returns invariant-loop decreases-loop
 returns c =
     let b = c.before.before.before.args.section.now in
-    let none = ap length (flat_none b c.before.loop.k c.loop-test.false) in
-    let counted = c.before.loop.invariant.2 in
+    let none = ap length (flat_none b c.before.loop-k.k c.loop-k-test.false) in
+    let counted = c.before.loop-k.invariant.2 in
     omega arith
 
 pub actions_in_spec : {M : Type 1} → statement M

@@ -23,8 +23,8 @@ returns c =
     let t = c.before in
     let m = t.before in
     let n = m.before.before in
-    sizes_read n.before.before.before.args.sheet.now n.wide.result m.wide2.result t.number2.result c.number22.result
-    n.wide.ensures.0 m.wide2.ensures.0 t.number2.ensures.0 c.number22.ensures.0
+    sizes_read n.before.before.before.args.sheet.now n.wide.result m.wide-2.result t.number2.result c.number2-2.result
+    n.wide.ensures.0 m.wide-2.ensures.0 t.number2.ensures.0 c.number2-2.ensures.0
 
 pub sizes_spec : {M : Type 1} → statement M
 sizes_spec =

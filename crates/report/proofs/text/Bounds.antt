@@ -58,6 +58,7 @@ In20 [] = Unit {0}
 In20 (x ∷ xs) = (x < 10 ^ 20) × In20 xs
 
 in20_each : (xs : List ℕ) → In20 xs → (x : ℕ) → Memᴰ x xs → x < 10 ^ 20
+in20_each [] h x x4 = elim x4 [ ]
 in20_each (y ∷ ys) h x (Memᴰ.head e) = rw e h.0
 in20_each (y ∷ ys) h x (Memᴰ.tail t) = in20_each ys h.1 x t
 

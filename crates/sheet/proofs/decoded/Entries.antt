@@ -1,16 +1,14 @@
 -- S3: the four entries of a component stored in an array of decoded records: they stand in their places, and no entry of another component
--- is touched. The alphabets of all components stand side by side.
+-- is touched.
 -- Assumes nothing.
 use mathlib.Core.Path.{◌≡◌, ◌∙◌}
 use mathlib.Core.Logic.{◌≢◌}
 use mathlib.Core.List.{List}
-use Prim.Native.Nat.{ℕ, ◌+◌, ◌*◌, ◌<◌}
+use Prim.Native.Nat.{ℕ, ◌+◌, ◌<◌}
 use native.Mathlib.Omega.{arith}
-use lib.ListN.{length, take, drop, get_or, set, length-set, length-drop}
-use lib.Seq.{length-take-le, get_or-take, get_or-drop, get_or-set_same, get_or-set_other}
-use Rattle.systems.specs.Tables.{Tables}
-use Rattle.sheet.specs.Bounds.{most_components}
-use Rattle.sheet.specs.Sections.{EntriesPut, Alphabets, Decoded}
+use lib.ListN.{length, get_or, set, length-set}
+use lib.Seq.{get_or-set_same, get_or-set_other}
+use Rattle.sheet.specs.Sections.{EntriesPut}
 
 -- ---- four entries stored (S3)
 
@@ -75,23 +73,3 @@ module _ (l : List ℕ) (j s i a base : ℕ) where
                 base_same = all_kept (48 + k) (λ q. omega arith, λ q. omega arith, λ q. omega arith, λ q. omega arith);
               };
         }
-
--- ---- the alphabets side by side (S3)
-
--- the third part of an array of decoded records
-abbrev pub alphabets_in : List ℕ → List ℕ
-alphabets_in l = take most_components (drop (2 * most_components) l)
-
-pub alphabets_size : (l : List ℕ) → length l ≡ 4 * most_components → length (alphabets_in l) ≡ most_components
-alphabets_size l h = length-take-le most_components (drop (2 * most_components) l) (rw length-drop (omega arith))
-
--- it has the alphabets of the n components
-pub decoded_alphabets : (T : Tables) (n : ℕ) (l : List ℕ) → Decoded T n l → Alphabets T n (alphabets_in l)
-decoded_alphabets T n l D = record { size = alphabets_size l D.size; count = D.count; each = each }
-  where
-    each : (j : ℕ) → j < n → get_or (alphabets_in l) j 0 ≡ T.alphabet j
-    each j h =
-        let few = D.few in
-        get_or-take most_components (drop (2 * most_components) l) j 0 (omega arith)
-        ∙ get_or-drop (2 * most_components) l j 0
-        ∙ D.alphabet_told j h

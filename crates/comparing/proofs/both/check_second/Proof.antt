@@ -6,17 +6,17 @@ use borrow.Author.Rules.{rules}
 use Rattle.comparing.proofs.both.check_second.Statement.{statement}
 use Rattle.comparing.proofs.both.check_second.Tie as tie
 
-returns : tie.Need-returns
+returns : tie.Need-returns-in_default
 returns c =
     let b = c.before.before.before.args.second.now in
-    second_accepted (verdict b) _ _ _ _ c.before.check.result c.match.keys2 c.before.check.ensures
+    second_accepted (verdict b) _ _ _ _ c.before.check-answer.result c.in_default.not-Refused c.before.check-answer.ensures
 
-returns-2 : tie.Need-returns-2
+returns-2 : tie.Need-returns
 returns-2 c =
-    let told = c.before.before.before.check in
-    let b = c.before.before.before.before.before.args.second.now in
-    let g = c.before.answer.given in
-    second_refused (verdict b) _ _ _ _ told.result g.0.0 g.0.1.0 g.0.1.1.0 g.1 told.ensures
+    let told = c.check-answer in
+    let b = c.args.second.now in
+    let g = c.in-Refused in
+    second_refused (verdict b) _ _ _ _ told.result g.number g.index g.sheet g.is told.ensures
 
 pub check_second_spec : {M : Type 1} → statement M
 check_second_spec = tie.close (tie.spec (λ c κs. search rules) (λ c. search rules) returns returns-2)

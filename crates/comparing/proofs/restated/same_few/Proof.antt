@@ -5,7 +5,7 @@ use borrow.Author.Rules.{rules}
 use Rattle.comparing.proofs.restated.same_few.Statement.{statement}
 use Rattle.comparing.proofs.restated.same_few.Tie as tie
 
-same-packed-requires : tie.Need-same-packed-requires
+same-packed-requires : tie.Need-same_packed-requires
 same-packed-requires c κs =
     let p = c.before.before.before.before.requires in
     (p.0, p.1, record { zeros = refl; enough = p.2 }, record { zeros = refl; enough = p.3 })

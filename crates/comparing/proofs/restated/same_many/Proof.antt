@@ -6,7 +6,7 @@ use Rattle.answers.proofs.Restated.{accepted_limits}
 use Rattle.comparing.proofs.restated.same_many.Statement.{statement}
 use Rattle.comparing.proofs.restated.same_many.Tie as tie
 
-same-packed-requires : tie.Need-same-packed-requires
+same-packed-requires : tie.Need-same_packed-requires
 same-packed-requires c κs =
     let p = c.before.before.before.before.requires in (
       p.0,

@@ -7,7 +7,7 @@ use Rattle.comparing.proofs.restated.second_leaner.Statement.{statement}
 use Rattle.comparing.proofs.restated.second_leaner.Tie as tie
 
 returns : tie.Need-returns
-returns c = ap₂ ltb c.restated-count2.ensures c.before.restated_count.ensures
+returns c = ap₂ ltb c.restated_count-two.ensures c.before.restated_count-one.ensures
 
 pub second_leaner_spec : {M : Type 1} → statement M
 second_leaner_spec = tie.close (tie.spec (λ c κs. search rules) (λ c κs. search rules) returns)

@@ -8,41 +8,41 @@ use Rattle.comparing.proofs.tables.differ.Statement.{statement}
 use Rattle.comparing.proofs.tables.differ.Tie as tie
 
 -- where the function begins
-abbrev start-at : tie.After-struct-known2 → tie.Start
+abbrev start-at : tie.After-struct_known-2-1 → tie.Start
 start-at k = k.before.before.before.before
 
-returns : tie.Need-returns
+returns : tie.Need-returns-then-sizes-sizes2
 returns c =
     let p = start-at c.before in
-    differ_n p.args.first.now p.args.second.now p.args.sizes p.args.sizes2 p.pre.0 p.pre.1 c.if1.true
+    differ_n p.args.first.now p.args.second.now p.args.sizes p.args.sizes2 p.requires.0 p.requires.1 c.if-sizes-sizes2.true
 
-returns-2 : tie.Need-returns-2
+returns-2 : tie.Need-returns-then-sizes-sizes2-2
 returns-2 c =
     let p = start-at c.before.before.before.before in
-    differ_m p.args.first.now p.args.second.now p.args.sizes p.args.sizes2 p.pre.0 p.pre.1 c.if2.true
+    differ_m p.args.first.now p.args.second.now p.args.sizes p.args.sizes2 p.requires.0 p.requires.1 c.if-sizes-sizes2-2.true
 
-returns-3 : tie.Need-returns-3
+returns-3 : tie.Need-returns-then-s-sizes2
 returns-3 c =
     let p = start-at c.before.before.before.before.before.before in
-    differ_s p.args.first.now p.args.second.now p.args.sizes p.args.sizes2 p.pre.0 p.pre.1 c.if3.true
+    differ_s p.args.first.now p.args.second.now p.args.sizes p.args.sizes2 p.requires.0 p.requires.1 c.if-s-sizes2.true
 
-slice-aggregate-same-bytes : tie.Need-slice-aggregate-same-bytes
+slice-aggregate-same-bytes : tie.Need-slice_bounds-same_bytes-end
 slice-aggregate-same-bytes c =
-    let p = start-at c.before.before.before.before.before.before.before in
-    front_size p.args.first.now p.args.sizes p.args.sizes.s p.pre.0 refl
+    let p = start-at c.before.before.before.before.before.before in
+    front_size p.args.first.now p.args.sizes p.args.sizes.s p.requires.0 refl
 
-slice-aggregate-same-bytes-2 : tie.Need-slice-aggregate-same-bytes-2
+slice-aggregate-same-bytes-2 : tie.Need-slice_bounds-same_bytes-end-2
 slice-aggregate-same-bytes-2 c =
-    let p = start-at c.before.before.before.before.before.before.before.before in
-    front_size p.args.second.now p.args.sizes2 p.args.sizes.s p.pre.1 c.before.before.if3.false
+    let p = start-at c.before.before.before.before.before.before in
+    front_size p.args.second.now p.args.sizes2 p.args.sizes.s p.requires.1 c.if-s-sizes2.false
 
-returns-4 : tie.Need-returns-4
+returns-4 : tie.Need-returns
 returns-4 c =
-    let last = c.before.before.before in
+    let last = c.before in
     let p = start-at last.before.before.before.before.before.before in
     ap not c.same_bytes.ensures
-    ∙ differ_front p.args.first.now p.args.second.now p.args.sizes p.args.sizes2 p.pre.0 p.pre.1
-    last.before.before.before.before.before.if1.false last.before.before.if2.false last.if3.false
+    ∙ differ_front p.args.first.now p.args.second.now p.args.sizes p.args.sizes2 p.requires.0 p.requires.1
+    c.if-sizes-sizes2.false c.if-sizes-sizes2-2.false c.if-s-sizes2.false
 
 pub differ_spec : {M : Type 1} → statement M
 differ_spec =

@@ -9,10 +9,10 @@ use Rattle.comparing.proofs.Sameness.{SameTo, apart_length, apart_at, same_none,
 use Rattle.comparing.proofs.tables.same_bytes.Statement.{statement}
 use Rattle.comparing.proofs.tables.same_bytes.Tie as tie
 
-abbrev invariant-loop : tie.invariant-loop
+abbrev invariant-loop : tie.invariant-loop-i
 invariant-loop a b i₀ i = SameTo a b i
 
-abbrev decreases-loop : tie.decreases-loop
+abbrev decreases-loop : tie.decreases-loop-i
 decreases-loop a b i₀ i = length a - i
 
 pub same_bytes_spec : {M : Type 1} → statement M
@@ -21,17 +21,17 @@ same_bytes_spec =
     (tie.spec
     invariant-loop
     decreases-loop
-    (λ c. let x = c.before.args in apart_length x.a.now x.b.now c.if1.true)
-    (λ c. let x = c.before.args in same_none x.a.now x.b.now c.if1.false)
+    (λ c. let x = c.before.args in apart_length x.a.now x.b.now c.if-a-b.true)
+    (λ c. let x = c.before.args in same_none x.a.now x.b.now c.if-a-b.false)
     (λ c. search rules)
-    (λ c. let p = c.before.before.before.loop.invariant in omega arith)
+    (λ c. let p = c.before.before.before.loop-i.invariant in omega arith)
     (λ c. let k = c.before.before.before.before in
     let x = k.before.before.args in
-    apart_at x.a.now x.b.now k.loop.i c.if2.true)
+    apart_at x.a.now x.b.now k.loop-i.i c.if-a-i.true)
     (λ c. search rules)
     (λ c. search rules)
     (λ c. let k = c.before.before.before.before in
     let x = k.before.before.args in
-    same_more x.a.now x.b.now k.loop.i k.loop.invariant (omega arith) c.if2.false)
+    same_more x.a.now x.b.now k.loop-i.i k.loop-i.invariant (omega arith) c.if-a-i.false)
     (λ c. let x = c.before.before.before.args in
-    same_all x.a.now x.b.now c.before.loop.i c.before.loop.invariant c.loop-test.false))
+    same_all x.a.now x.b.now c.before.loop-i.i c.before.loop-i.invariant c.loop-i-test.false))

@@ -25,37 +25,37 @@ given_told : (b : List ℕ) (f : ℕ) → verdict b ≡ Verdict.accepted → f �
 unfolding figure_outcome
 given_told b f acc e = told_given one_value (verdict b) (figure b) (one_value f) acc (ap one_value e)
 
-returns : tie.Need-returns
+returns : tie.Need-returns-in_default
 returns c =
     let d = c.before.before in
-    refused_told d.before.before.before.args.sheet.now d.check-with.result c.match.keys2 d.check-with.ensures.0
+    refused_told d.before.before.before.args.sheet.now d.check_with-answer.result c.in_default.not-Accepted d.check_with-answer.ensures.0
 
-abbrev checked-at : tie.After-known-told → tie.After-check-with
-checked-at c = c.before.before.before.before
+abbrev checked-at : tie.In-Accepted → tie.After-check_with-answer
+checked-at c = c.before.before
 
-accepted_at : (c : tie.After-known-told) → AcceptedSheet (checked-at c).before.before.before.args.sheet.now c.before.answer.given.0.0
-accepted_at c = check_accepted _ _ _ c.before.answer.given.1 (checked-at c).check-with.ensures.0
+accepted_at : (c : tie.In-Accepted) → AcceptedSheet (checked-at c).before.before.before.args.sheet.now c.in-Accepted.sizes
+accepted_at c = check_accepted _ _ _ c.in-Accepted.is (checked-at c).check_with-answer.ensures.0
 
 -- its decoded records
-decoded_at : (c : tie.After-known-told) → let d = checked-at c in
-    Decoded (tables d.before.before.before.args.sheet.now) c.before.answer.given.0.0.n d.check-with.last.1.0
-decoded_at c = records_left (accepted_at c) (checked-at c).check-with.ensures.1
+decoded_at : (c : tie.In-Accepted) → let d = checked-at c in
+    Decoded (tables d.before.before.before.args.sheet.now) c.in-Accepted.sizes.n d.check_with-answer.new.records
+decoded_at c = records_left (accepted_at c) (checked-at c).check_with-answer.ensures.1
 
-participants-by-requires : tie.Need-participants-by-requires
+participants-by-requires : tie.Need-participants_by-requires
 participants-by-requires c κs =
     let k = c.before.before in
     ((accepted_at k).sizes_read.n_high, (decoded_at k).size, refl)
 
-figure-at-requires : tie.Need-figure-at-requires
+figure-at-requires : tie.Need-figure_at-requires
 figure-at-requires c κs =
     let made = c.before.before in
     let k = made.before.before.before in
-    (accepted_at k, made.participants-by.ensures _ (decoded_at k))
+    (accepted_at k, made.participants_by.ensures _ (decoded_at k))
 
-returns-2 : tie.Need-returns-2
+returns-2 : tie.Need-returns
 returns-2 c =
     let k = c.before.before.before.before.before.before in
-    given_told (checked-at k).before.before.before.args.sheet.now c.figure-at.result (accepted_at k).sheet_accepted c.figure-at.ensures
+    given_told (checked-at k).before.before.before.args.sheet.now c.figure_at.result (accepted_at k).sheet_accepted c.figure_at.ensures
 
 pub figure_of_spec : {M : Type 1} → statement M
 figure_of_spec =

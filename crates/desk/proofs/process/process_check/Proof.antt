@@ -31,27 +31,27 @@ given_told : (b : List ℕ) (x : ℕ) → verdict b ≡ Verdict.accepted → x �
 unfolding process_check
 given_told b x acc e = told_given (λ o. one_value (offending o)) (verdict b) (offence b) (one_value x) acc (ap one_value e)
 
-returns : tie.Need-returns
+returns : tie.Need-returns-in_default
 returns c =
     let d = c.before.before in
-    refused_told d.before.before.before.args.sheet.now d.check-with.result c.match.keys2 d.check-with.ensures.0
+    refused_told d.before.before.before.args.sheet.now d.check_with-answer.result c.in_default.not-Accepted d.check_with-answer.ensures.0
 
-abbrev checked-at : tie.After-known-told → tie.After-check-with
-checked-at c = c.before.before.before.before
+abbrev checked-at : tie.In-Accepted → tie.After-check_with-answer
+checked-at c = c.before.before
 
-accepted_at : (c : tie.After-known-told) → AcceptedSheet (checked-at c).before.before.before.args.sheet.now c.before.answer.given.0.0
-accepted_at c = check_accepted _ _ _ c.before.answer.given.1 (checked-at c).check-with.ensures.0
+accepted_at : (c : tie.In-Accepted) → AcceptedSheet (checked-at c).before.before.before.args.sheet.now c.in-Accepted.sizes
+accepted_at c = check_accepted _ _ _ c.in-Accepted.is (checked-at c).check_with-answer.ensures.0
 
-offence-at-requires : tie.Need-offence-at-requires
+offence-at-requires : tie.Need-offence_at-requires
 offence-at-requires c κs =
     let k = c.before in
-    (accepted_at k, records_left (accepted_at k) (checked-at k).check-with.ensures.1)
+    (accepted_at k, records_left (accepted_at k) (checked-at k).check_with-answer.ensures.1)
 
-returns-2 : tie.Need-returns-2
+returns-2 : tie.Need-returns
 returns-2 c =
     let k = c.before.before in
-    given_told (checked-at k).before.before.before.args.sheet.now c.offence-at.result (accepted_at k).sheet_accepted
-    c.offence-at.ensures
+    given_told (checked-at k).before.before.before.args.sheet.now c.offence_at.result (accepted_at k).sheet_accepted
+    c.offence_at.ensures
 
 pub process_check_spec : {M : Type 1} → statement M
 process_check_spec =

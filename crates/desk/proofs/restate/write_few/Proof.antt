@@ -5,7 +5,7 @@ use borrow.Author.Rules.{rules}
 use Rattle.desk.proofs.restate.write_few.Statement.{statement}
 use Rattle.desk.proofs.restate.write_few.Tie as tie
 
-write-packed-requires : tie.Need-write-packed-requires
+write-packed-requires : tie.Need-write_packed-requires
 write-packed-requires c κs =
     let k = c.before.before.before.before.before.before in
     (k.requires.0, record { zeros = refl; enough = k.requires.1 })

@@ -6,7 +6,7 @@ use Rattle.desk.proofs.restate.PackedSheets.{given_few}
 use Rattle.desk.proofs.restate.write_many.Statement.{statement}
 use Rattle.desk.proofs.restate.write_many.Tie as tie
 
-write-packed-requires : tie.Need-write-packed-requires
+write-packed-requires : tie.Need-write_packed-requires
 write-packed-requires c κs =
     let k = c.before.before.before.before.before.before in
     (k.requires, record { zeros = refl; enough = given_few k.requires.0 _ _ _ _ k.requires.1 })

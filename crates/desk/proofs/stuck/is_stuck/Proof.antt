@@ -29,35 +29,35 @@ given_told : (b : List ℕ) (x : ℕ) (t : Bool) → verdict b ≡ Verdict.accep
 unfolding stuck_outcome
 given_told b x t acc e f = told_given yes_no (verdict b) (stuck b) (one_value x) acc (ap one_value (e ∙ ap bit f))
 
-returns : tie.Need-returns
+returns : tie.Need-returns-in_default
 returns c =
     let d = c.before.before in
-    refused_told d.before.before.before.args.sheet.now d.end-sets-with.result.answer c.match.keys2
-    d.end-sets-with.ensures.0.answer_told
+    refused_told d.before.before.before.args.sheet.now d.end_sets_with-ended.result.answer c.in_default.not-Accepted
+    d.end_sets_with-ended.ensures.0.answer_told
 
-abbrev ended_at : tie.After-known-told → tie.After-end-sets-with
-ended_at c = c.before.before.before.before
+abbrev ended_at : tie.In-Accepted → tie.After-end_sets_with-ended
+ended_at c = c.before.before
 
-accepted_at : (c : tie.After-known-told) → AcceptedSheet (ended_at c).before.before.before.args.sheet.now c.before.answer.given.0.0
-accepted_at c = check_accepted _ _ _ c.before.answer.given.1 (ended_at c).end-sets-with.ensures.0.answer_told
+accepted_at : (c : tie.In-Accepted) → AcceptedSheet (ended_at c).before.before.before.args.sheet.now c.in-Accepted.sizes
+accepted_at c = check_accepted _ _ _ c.in-Accepted.is (ended_at c).end_sets_with-ended.ensures.0.answer_told
 
 -- its decoded records
-decoded_at : (c : tie.After-known-told) → let d = ended_at c in
-    Decoded (tables d.before.before.before.args.sheet.now) c.before.answer.given.0.0.n d.end-sets-with.last.1.0
-decoded_at c = records_left (accepted_at c) (ended_at c).end-sets-with.ensures.1
+decoded_at : (c : tie.In-Accepted) → let d = ended_at c in
+    Decoded (tables d.before.before.before.args.sheet.now) c.in-Accepted.sizes.n d.end_sets_with-ended.new.records
+decoded_at c = records_left (accepted_at c) (ended_at c).end_sets_with-ended.ensures.1
 
-participants-by-requires : tie.Need-participants-by-requires
+participants-by-requires : tie.Need-participants_by-requires
 participants-by-requires c κs =
     let k = c.before.before in
     ((accepted_at k).sizes_read.n_high, (decoded_at k).size, refl)
 
-stuck-at-requires : tie.Need-stuck-at-requires
+stuck-at-requires : tie.Need-stuck_at-requires
 stuck-at-requires c κs =
     let made = c.before.before.before.before in
     let k = made.before.before.before in
-    (accepted_at k, made.participants-by.ensures _ (decoded_at k), (ended_at k).end-sets-with.ensures.0.sets_told)
+    (accepted_at k, made.participants_by.ensures _ (decoded_at k), (ended_at k).end_sets_with-ended.ensures.0.sets_told)
 
-returns-2 : tie.Need-returns-2
+returns-2 : tie.Need-returns
 returns-2 c =
     let at = c.before in
     let k = at.before.before.before.before.before.before.before.before in

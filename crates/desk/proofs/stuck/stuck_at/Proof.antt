@@ -9,13 +9,13 @@ use Rattle.desk.proofs.stuck.stuck_at.Statement.{statement}
 use Rattle.desk.proofs.stuck.stuck_at.Tie as tie
 
 -- where the transitions stand
-part-start : tie.Need-slice-bounds-none-enabled-start
+part-start : tie.Need-slice_bounds-none_enabled-start
 part-start c = let s = c.before.before.before in (transitions_at_fact _ _ s.requires.0).1
 
-part_end : tie.Need-slice-bounds-none-enabled-end
+part_end : tie.Need-slice_bounds-none_enabled-end
 part_end c = let s = c.before.before.before in (transitions_at_fact _ _ s.requires.0).2
 
-none-enabled-requires : tie.Need-none-enabled-requires
+none-enabled-requires : tie.Need-none_enabled-requires
 none-enabled-requires c κs =
     let s = c.before.before.before.before in
     let b = s.args.sheet.now in
@@ -27,7 +27,7 @@ returns c =
     let s = c.before.before.before.before.before in
     let b = s.args.sheet.now in
     let z = s.args.sizes in
-    c.none-enabled.ensures (tables b) (accepted_order b s.requires.0.sheet_accepted) (transitions_told b z s.requires.0) s.requires.1
+    c.none_enabled.ensures (tables b) (accepted_order b s.requires.0.sheet_accepted) (transitions_told b z s.requires.0) s.requires.1
     ∙ stuck_told b z s.requires.0 s.args.sets.now s.requires.2
 
 pub stuck_at_spec : {M : Type 1} → statement M

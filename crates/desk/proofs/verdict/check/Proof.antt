@@ -8,21 +8,20 @@ use Rattle.desk.proofs.verdict.Judging.{refused_told, trailer_stopped, trailer_v
 use Rattle.desk.proofs.verdict.check.Statement.{statement}
 use Rattle.desk.proofs.verdict.check.Tie as tie
 
-returns : tie.Need-returns
+returns : tie.Need-returns-in_default
 returns c =
     let r = c.before in
     let b = r.before.before.args.sheet.now in
-    let a = r.read-trailer.result in
-    let stop = trailer_stopped b a c.match.keys2 r.read-trailer.ensures in
-    refused_told b a (trailer_verdict b accepted) stop (trailer_verdict_fact b a c.match.keys2 stop)
+    let a = r.read_trailer-told.result in
+    let stop = trailer_stopped b a c.in_default.not-Accepted r.read_trailer-told.ensures in
+    refused_told b a (trailer_verdict b accepted) stop (trailer_verdict_fact b a c.in_default.not-Accepted stop)
 
-judge-passed-requires : tie.Need-judge-passed-requires
+judge-passed-requires : tie.Need-judge_passed-requires
 judge-passed-requires c κs =
-    let told = c.before.before.before in
-    (ap outcome_of (sym told.told.given.1) ∙ told.before.before.read-trailer.ensures, refl, refl)
+    (ap outcome_of (sym c.in-Accepted.is) ∙ c.read_trailer-told.ensures, refl, refl)
 
-returns-2 : tie.Need-returns-2
-returns-2 c = c.before.before.judge-passed.ensures.0.answer_told
+returns-2 : tie.Need-returns
+returns-2 c = c.before.before.judge_passed.ensures.0.answer_told
 
 pub check_spec : {M : Type 1} → statement M
 check_spec =

@@ -16,11 +16,11 @@ below_set l n j h = rw ((ltb_true j n).1 h)
 above_set : (l : List ℕ) (n j : ℕ) → n ≤ j → 0 ≡ set_below l n j
 above_set l n j h = rw ((ltb_false j n).1 h)
 
-returns : tie.Need-returns
-returns c = let a = c.before.before.args in below_set a.held.now a.n a.j c.before.if1.true
+returns : tie.Need-returns-then-j-n
+returns c = let a = c.before.before.args in below_set a.held.now a.n a.j c.before.if-j-n.true
 
-returns-2 : tie.Need-returns-2
-returns-2 c = let a = c.before.args in above_set a.held.now a.n a.j c.if1.false
+returns-2 : tie.Need-returns
+returns-2 c = let a = c.before.args in above_set a.held.now a.n a.j c.if-j-n.false
 
 pub end_set_at_spec : {M : Type 1} → statement M
 end_set_at_spec = tie.close (tie.spec (λ c. search rules) (λ c. search rules) returns returns-2)

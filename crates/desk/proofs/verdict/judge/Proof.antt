@@ -8,23 +8,21 @@ use Rattle.desk.proofs.verdict.Judging.{refused_ends, refused_records, trailer_s
 use Rattle.desk.proofs.verdict.judge.Statement.{statement}
 use Rattle.desk.proofs.verdict.judge.Tie as tie
 
-abbrev start-at : tie.After-read-trailer → tie.Start
+abbrev start-at : tie.After-read_trailer-read → tie.Start
 start-at c = c.before.before.before.before
 
-returns : tie.Need-returns
+returns : tie.Need-returns-in_default
 returns c =
     let r = c.before in
     let b = (start-at r).args.sheet.now in
-    let a = r.read-trailer.result in
-    let stop = trailer_stopped b a c.match.keys2 r.read-trailer.ensures in
-    let same = trailer_verdict_fact b a c.match.keys2 stop in
+    let a = r.read_trailer-read.result in
+    let stop = trailer_stopped b a c.in_default.not-Accepted r.read_trailer-read.ensures in
+    let same = trailer_verdict_fact b a c.in_default.not-Accepted stop in
     (refused_ends b a (trailer_verdict b accepted) stop same _ (start-at r).requires.1, refused_records b a (trailer_verdict b accepted) stop same _)
 
-judge-passed-requires : tie.Need-judge-passed-requires
+judge-passed-requires : tie.Need-judge_passed-requires
 judge-passed-requires c κs =
-    let read = c.before.before.before in
-    let r = read.before.before in
-    (ap outcome_of (sym read.read.given.1) ∙ r.read-trailer.ensures, (start-at r).requires.0, (start-at r).requires.1)
+    (ap outcome_of (sym c.in-Accepted.is) ∙ c.read_trailer-read.ensures, c.requires.0, c.requires.1)
 
 pub judge_spec : {M : Type 1} → statement M
 judge_spec =

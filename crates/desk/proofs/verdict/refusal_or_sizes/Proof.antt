@@ -18,13 +18,13 @@ no_refusal : (a : Answer) → NotRefused a → (v : Verdict) (x : List ℕ) → 
 no_refusal a h accepted x e = refl
 no_refusal (Accepted z) h (refused k i) x e = let n : ◌≡◌ {A = ℕ} 0 1 = cc in absurd (omega arith)
 no_refusal (Given y) h (refused k i) x e = let n : ◌≡◌ {A = ℕ} 0 1 = cc in absurd (omega arith)
-no_refusal (Refused l j s) h (refused k i) x e = elim h [ inl p ↦ absurd (omega arith) | inr p ↦ absurd (omega arith) ]
+no_refusal (Refused l j s) h (refused k i) x e = absurd (h l j s refl)
 
-returns : tie.Need-returns
-returns c b v same e = same ∙ ap (read_outcome b) (sym (no_refusal c.before.args.answer c.match.keys2 v (sizes_of b) e))
+returns : tie.Need-returns-in_default
+returns c b v same e = same ∙ ap (read_outcome b) (sym (no_refusal c.args.answer c.in_default.not-Refused v (sizes_of b) e))
 
-returns-2 : tie.Need-returns-2
-returns-2 c b v same e = ap outcome_of (sym c.before.answer.given.1) ∙ e
+returns-2 : tie.Need-returns
+returns-2 c b v same e = ap outcome_of (sym c.in-Refused.is) ∙ e
 
 pub refusal_or_sizes_spec : {M : Type 1} → statement M
 refusal_or_sizes_spec = tie.close (tie.spec (λ c. search rules) returns returns-2)

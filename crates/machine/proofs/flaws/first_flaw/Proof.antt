@@ -31,53 +31,53 @@ unflawed_more {steps} {k = k} U h e =
     go T last earlier i (inl q) = ap (λ (j : ℕ). flaw_of T (get_or (steps_in steps) j 0)) q ∙ last
     go T last earlier i (inr l) = earlier i l
 
-abbrev invariant-loop : tie.invariant-loop
+abbrev invariant-loop : tie.invariant-loop-k
 invariant-loop steps alphabets n m count k₀ k = Unflawed steps alphabets n m k
 
-abbrev decreases-loop : tie.decreases-loop
+abbrev decreases-loop : tie.decreases-loop-k
 decreases-loop steps alphabets n m count k₀ k = count - k
 
-loop-holds : tie.Need-loop-init invariant-loop decreases-loop
+loop-holds : tie.Need-loop-k-init invariant-loop decreases-loop
 loop-holds c = record { within = omega arith; none_earlier = λ T A t i l. absurd (omega arith) }
 
 -- the flaw of the step at k
-flaw_told : (c : tie.After-flaw-of invariant-loop decreases-loop) → let a = c.before.before.before.before.before.before.args in
-    let k = c.before.before.before.loop.k in
+flaw_told : (c : tie.After-flaw_of-number invariant-loop decreases-loop) → let a = c.before.before.before.before.before.before.args in
+    let k = c.before.before.before.loop-k.k in
     (T : Tables) → Alphabets T a.n a.alphabets.now → T.actions ≡ a.m
-    → c.flaw-of.result ≡ flaw_of T (get_or (steps_in a.steps.now) k 0)
+    → c.flaw_of-number.result ≡ flaw_of T (get_or (steps_in a.steps.now) k 0)
 flaw_told c T A t =
     let read = c.before in
     let at = read.before.before in
     let steps = at.before.before.before.args.steps.now in
-    c.flaw-of.ensures T A t
-    ∙ ap (flaw_of T) (read.step-at.ensures ∙ sym (steps_in_at steps at.loop.k read.before.loop-test.true))
+    c.flaw_of-number.ensures T A t
+    ∙ ap (flaw_of T) (read.step_at.ensures ∙ sym (steps_in_at steps at.loop-k.k read.before.loop-k-test.true))
 
-returns : tie.Need-returns invariant-loop decreases-loop
+returns : tie.Need-returns-then-number-ne0 invariant-loop decreases-loop
 returns c T A t =
     let found = c.before in
     let at = found.before.before.before in
     let steps = at.before.before.before.args.steps.now in
-    let h : at.loop.k < length steps / 8 = found.before.before.loop-test.true in
+    let h : at.loop-k.k < length steps / 8 = found.before.before.loop-k-test.true in
     record {
       within = rw steps_in_length (omega arith);
-      none_earlier = at.loop.invariant.none_earlier T A t;
-      number_told_fact = λ l. (flaw_told found T A t, c.if1.true);
+      none_earlier = at.loop-k.invariant.none_earlier T A t;
+      number_told_fact = λ l. (flaw_told found T A t, c.if-number-ne0.true);
       none_told = λ e. absurd (omega (arith, steps_in_length steps));
     }
 
-loop-again : tie.Need-loop-preserved invariant-loop decreases-loop
+loop-again : tie.Need-loop-k-preserved invariant-loop decreases-loop
 loop-again c =
     let found = c.before in
-    unflawed_more found.before.before.before.loop.invariant found.before.before.loop-test.true
-    (λ T A t. sym (flaw_told found T A t) ∙ c.if1.false)
+    unflawed_more found.before.before.before.loop-k.invariant found.before.before.loop-k-test.true
+    (λ T A t. sym (flaw_told found T A t) ∙ c.if-number-ne0.false)
 
-returns-2 : tie.Need-returns-2 invariant-loop decreases-loop
+returns-2 : tie.Need-returns invariant-loop decreases-loop
 returns-2 c T A t =
     let steps = c.before.before.before.before.args.steps.now in
-    let h = c.loop-test.false in
+    let h = c.loop-k-test.false in
     record {
       within = omega (arith, steps_in_length steps);
-      none_earlier = λ i l. c.before.loop.invariant.none_earlier T A t i (omega arith);
+      none_earlier = λ i l. c.before.loop-k.invariant.none_earlier T A t i (omega arith);
       number_told_fact = λ l. absurd (omega (arith, steps_in_length steps));
       none_told = λ e. refl;
     }

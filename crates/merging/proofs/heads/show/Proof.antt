@@ -20,54 +20,54 @@ use Rattle.merging.proofs.heads.show.Tie as tie
 label_below : (rest : List ℕ) (a : ℕ) → FirstBelow rest → ¬ (length rest ≡ 0) → a ≡ get_or rest 0 0 → a < most_actions
 label_below rest a f some e = let h = f (get_or rest 0 0) (drop 1 rest) (drop_next rest 0 (omega arith)) in omega arith
 
-returns : tie.Need-returns
-returns c = shows_nothing _ _ _ _ _ c.if1.true
+returns : tie.Need-returns-then-rest-eq0
+returns c = shows_nothing _ _ _ _ _ c.if-rest-eq0.true
 
-slice-read-with : tie.Need-slice-read-with
+slice-read-with : tie.Need-bounds-waiting-a
 slice-read-with c =
     let s = c.before.before.before.before.before.before.before in
-    let w = c.before.wide in
-    let b = label_below s.args.rest.now w.result s.requires.3 c.before.before.before.if1.false w.ensures.0 in
+    let w = c.before.wide-a in
+    let b = label_below s.args.rest.now w.result s.requires.3 c.before.before.before.if-rest-eq0.false w.ensures.0 in
     omega (arith, s.requires.2)
 
-slice-write-waiting : tie.Need-slice-write-waiting
+slice-write-waiting : tie.Need-bounds-waiting-a-2
 slice-write-waiting c =
     let s = c.before.before.before.before.before.before.before.before in
-    let w = c.before.before.wide in
-    let b = label_below s.args.rest.now w.result s.requires.3 c.before.before.before.before.if1.false w.ensures.0 in
+    let w = c.before.before.wide-a in
+    let b = label_below s.args.rest.now w.result s.requires.3 c.before.before.before.before.if-rest-eq0.false w.ensures.0 in
     omega (arith, s.requires.2)
 
-shared-slice-read-if2 : tie.Need-shared-slice-read-if2
+shared-slice-read-if2 : tie.Need-bounds-participants-a
 shared-slice-read-if2 c =
     let s = c.before.before.before.before.before.before.before.before.before in
-    let w = c.before.before.before.wide in
-    let b = label_below s.args.rest.now w.result s.requires.3 c.before.before.before.before.before.if1.false w.ensures.0 in
+    let w = c.before.before.before.wide-a in
+    let b = label_below s.args.rest.now w.result s.requires.3 c.before.before.before.before.before.if-rest-eq0.false w.ensures.0 in
     omega (arith, s.requires.1)
 
-with-requires-2 : tie.Need-with-requires-2
+with-requires-2 : tie.Need-with-requires
 with-requires-2 c κs =
     let s = c.before.before.before.before.before.before.before.before.before.before in
-    let w = c.before.before.before.before.wide in
-    label_below s.args.rest.now w.result s.requires.3 c.before.before.before.before.before.before.if1.false w.ensures.0
+    let w = c.before.before.before.before.wide-a in
+    label_below s.args.rest.now w.result s.requires.3 c.before.before.before.before.before.before.if-rest-eq0.false w.ensures.0
 
-returns-2 : tie.Need-returns-2
+returns-2 : tie.Need-returns-then-mine-participants
 returns-2 c =
     let s = c.before.before.before.before.before.before.before.before.before.before.before in
-    let w = c.before.before.before.before.before.wide in
+    let w = c.before.before.before.before.before.wide-a in
     shows_one s.args.rest.now s.args.j s.args.participants.now s.args.waiting.now s.args.ready w.result
-    c.before.before.before.with.result c.with2.result w.ensures.0
-    c.before.before.before.before.before.before.before.if1.false c.before.before.before.with.ensures
-    (c.with2.ensures
-    ∙ ap (λ (t : Bool). cond t (with w.result s.args.ready) s.args.ready) (sym ((eqb_true _ _).1 c.before.if2.true)))
+    c.before.before.before.with-mine.result c.with.result w.ensures.0
+    c.before.before.before.before.before.before.before.if-rest-eq0.false c.before.before.before.with-mine.ensures
+    (c.with.ensures
+    ∙ ap (λ (t : Bool). cond t (with w.result s.args.ready) s.args.ready) (sym ((eqb_true _ _).1 c.before.if-mine-participants.true)))
 
-returns-3 : tie.Need-returns-3
+returns-3 : tie.Need-returns
 returns-3 c =
     let s = c.before.before.before.before.before.before.before.before.before.before in
-    let w = c.before.before.before.before.wide in
+    let w = c.before.before.before.before.wide-a in
     shows_one s.args.rest.now s.args.j s.args.participants.now s.args.waiting.now s.args.ready w.result
-    c.before.before.with.result s.args.ready w.ensures.0 c.before.before.before.before.before.before.if1.false
-    c.before.before.with.ensures
-    (ap (λ (t : Bool). cond t (with w.result s.args.ready) s.args.ready) (sym ((eqb_false _ _).1 c.if2.false)))
+    c.before.before.with-mine.result s.args.ready w.ensures.0 c.before.before.before.before.before.before.if-rest-eq0.false
+    c.before.before.with-mine.ensures
+    (ap (λ (t : Bool). cond t (with w.result s.args.ready) s.args.ready) (sym ((eqb_false _ _).1 c.if-mine-participants.false)))
 
 pub show_spec : {M : Type 1} → statement M
 show_spec =

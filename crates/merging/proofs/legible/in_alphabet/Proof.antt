@@ -8,7 +8,7 @@ use Rattle.sets.proofs.Members.{member_lt}
 use Rattle.merging.proofs.legible.in_alphabet.Statement.{statement}
 use Rattle.merging.proofs.legible.in_alphabet.Tie as tie
 
-returns-2 : tie.Need-returns-2
+returns-2 : tie.Need-returns
 returns-2 c =
     let s = c.before in
     sym ((false_iff _).1 (λ e. let l = member_lt 64 s.args.alphabet s.args.label s.ranges.alphabet.fits e in omega arith))

@@ -8,33 +8,33 @@ use lib.ListN.{length, get_or}
 use borrow.Author.Count.{below_more}
 use borrow.Author.Rules.{rules}
 use Rattle.sets.specs.Bits.{member}
-use Rattle.sets.proofs.Bools.{not_both, not_true, not_false}
+use Rattle.sets.proofs.Bools.{not_both}
 use Rattle.merging.proofs.legible.labels_own.Statement.{statement}
 use Rattle.merging.proofs.legible.labels_own.Tie as tie
 
-abbrev invariant-loop : tie.invariant-loop
+abbrev invariant-loop : tie.invariant-loop-i
 invariant-loop labels alphabet i₀ i = (i ≤ length labels) × ((k : ℕ) → k < i → member alphabet (get_or labels k 0) ≡ true)
 
-abbrev decreases-loop : tie.decreases-loop
+abbrev decreases-loop : tie.decreases-loop-i
 decreases-loop labels alphabet i₀ i = length labels - i
 
-loop-holds : tie.Need-loop-init invariant-loop decreases-loop
+loop-holds : tie.Need-loop-i-init invariant-loop decreases-loop
 loop-holds c = (omega arith, λ k l. absurd (omega arith))
 
-returns : tie.Need-returns invariant-loop decreases-loop
+returns : tie.Need-returns-then-not-in_alphabet invariant-loop decreases-loop
 returns c =
-    let l = c.before.before.before.before.loop in (
+    let l = c.before.before.before.before.loop-i in (
       λ e. absurd (false≢true e),
-      λ all. absurd (not_both (c.before.in_alphabet.ensures ∙ all l.i (omega arith)) ((not_true _).0 c.if1.true)),
+      λ all. absurd (not_both (c.before.in_alphabet.ensures ∙ all l.i (omega arith)) c.if-not-in_alphabet.true),
     )
 
-loop-again : tie.Need-loop-preserved invariant-loop decreases-loop
+loop-again : tie.Need-loop-i-preserved invariant-loop decreases-loop
 loop-again c =
-    let l = c.before.before.before.before.loop in
-    (omega arith, below_more _ _ l.invariant.1 (sym c.before.in_alphabet.ensures ∙ (not_false _).0 c.if1.false))
+    let l = c.before.before.before.before.loop-i in
+    (omega arith, below_more _ _ l.invariant.1 (sym c.before.in_alphabet.ensures ∙ c.if-not-in_alphabet.false))
 
-returns-2 : tie.Need-returns-2 invariant-loop decreases-loop
-returns-2 c = let l = c.before.loop in (λ e i h. l.invariant.1 i (omega arith), λ all. refl)
+returns-2 : tie.Need-returns invariant-loop decreases-loop
+returns-2 c = let l = c.before.loop-i in (λ e i h. l.invariant.1 i (omega arith), λ all. refl)
 
 pub labels_own_spec : {M : Type 1} → statement M
 labels_own_spec =

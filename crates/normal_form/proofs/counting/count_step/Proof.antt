@@ -30,13 +30,13 @@ loop-holds c =
     to_place_all most_in_steps start.args.participants.now _ start.args.last.now _ start.requires.1 start.requires.2
 
 -- the turn's start, and the room that the next action has in it
-abbrev turn_at : tie.After-take-lowest invariant-loop decreases-loop → tie.At-loop invariant-loop decreases-loop
+abbrev turn_at : tie.After-take_lowest invariant-loop decreases-loop → tie.At-loop-left invariant-loop decreases-loop
 turn_at c = c.before.before.before
 
-abbrev start-at : tie.After-take-lowest invariant-loop decreases-loop → tie.Start invariant-loop decreases-loop
+abbrev start-at : tie.After-take_lowest invariant-loop decreases-loop → tie.Start invariant-loop decreases-loop
 start-at c = (turn_at c).before.before.before
 
-next_room : (c : tie.After-take-lowest invariant-loop decreases-loop) → Room most_in_steps (turn_at c).loop-left.last 1
+next_room : (c : tie.After-take_lowest invariant-loop decreases-loop) → Room most_in_steps (turn_at c).loop-left.last 1
 next_room c =
     part_room _ _ _ _ _ _ _ _ (turn_at c).loop-left.invariant (c.take_lowest.result ∷ []) _ (taken_first c.take_lowest.ensures)
 
@@ -45,13 +45,13 @@ take-level-requires c κs =
     let took = c.before in
     let turn = (turn_at took).loop-left in (
       (start-at took).requires.0,
-      turn.inv.last_size,
+      turn.invariant.last_size,
       took.take_lowest.ensures.below,
       λ j h. let r = next_room took j h in omega arith,
     )
 
 -- the action's level is small
-low : (c : tie.After-take-level invariant-loop decreases-loop) → c.take_level-at.result < most_in_steps
+low : (c : tie.After-take_level-at invariant-loop decreases-loop) → c.take_level-at.result < most_in_steps
 low c =
     let took = c.before.before in
     level_below (start-at took).args.participants.now (start-at took).requires.0 took.take_lowest.result _ _ _ c.take_level-at.ensures
@@ -72,7 +72,7 @@ loop-again c =
     to_place_rest _ _ _ _ _ _ _ _ (turn_at took).loop-left.invariant (a ∷ []) _ (taken_first took.take_lowest.ensures) _ _
     (place_one (start-at took).args.participants.now (start-at took).requires.0 a _ _ level taken.take_level-at.ensures
     (λ ss few. put_counted a level _ _ c.larger-steps.ensures ss))
-    taken.take_level-at.auto.1.1.0
+    taken.take_level-at.auto.last
 
 same_length : tie.Need-shape_of-last invariant-loop decreases-loop
 same_length c = c.before.loop-left.invariant.last_size ∙ sym c.before.before.before.before.requires.1

@@ -9,12 +9,12 @@ use Rattle.normal_form.proofs.levels.take_level.Tie as tie
 
 highest-requires : tie.Need-highest-at-requires
 highest-requires c κs =
-    let start = c.before.before.before.before in
+    let start = c.before.before.before in
     (start.requires.0.small start.args.a, start.requires.1)
 
 raise-requires : tie.Need-raise-requires
 raise-requires c κs =
-    let start = c.before.before.before.before.before.before in
+    let start = c.before.before.before.before.before in
     let found = c.before.highest-at.ensures in
     let room = level_room start.args.participants.now start.requires.0 start.args.a start.args.last.now most_of_word 1 start.requires.3 in
     (start.requires.0.small start.args.a, omega arith, start.requires.1)

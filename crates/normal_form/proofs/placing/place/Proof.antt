@@ -11,14 +11,14 @@ use Rattle.normal_form.proofs.Words.{place_one}
 use Rattle.normal_form.proofs.placing.place.Statement.{statement}
 use Rattle.normal_form.proofs.placing.place.Tie as tie
 
-abbrev start-at : tie.After-take-level → tie.Start
+abbrev start-at : tie.After-take_level-at → tie.Start
 start-at c = c.before.before.before.before.before
 
 -- there is a step of the level
-low : (c : tie.After-take-level) → c.take_level-at.result < length (start-at c).args.packed.now
+low : (c : tie.After-take_level-at) → c.take_level-at.result < length (start-at c).args.packed.now
 low c =
     let start = start-at c in
-    level_below start.args.participants.now start.pre.0 start.args.a _ _ _ c.take_level-at.ensures _ start.pre.3
+    level_below start.args.participants.now start.requires.0 start.args.a _ _ _ c.take_level-at.ensures _ start.requires.3
 
 take-level-requires : tie.Need-take_level-at-requires
 take-level-requires c κs =
@@ -46,7 +46,7 @@ returns c =
     let start = start-at taken in
     let at = taken.take_level-at.result in
     let packed = start.args.packed.now in
-    place_one start.args.participants.now start.pre.0 start.args.a _ _ at taken.take_level-at.ensures
+    place_one start.args.participants.now start.requires.0 start.args.a _ _ at taken.take_level-at.ensures
     (λ ss. put_holds start.args.a at _ _ c.larger.ensures ss packed _ (low taken) (ap (set packed at) c.before.with.ensures))
 
 pub place_spec : {M : Type 1} → statement M

@@ -46,9 +46,9 @@ loop-again c =
     let turn = c.before.before.before.before.before.before.before.before.before.before.loop-left in
     let took = c.before.before.before.before.before.before.before.take_lowest-a in
     let placed = c.before.before.before.before.place-steps in (
-      placed.auto.1.1.1.1.0 ∙ turn.invariant.0,
+      placed.auto.packed ∙ turn.invariant.0,
       to_place_rest _ _ _ _ _ _ _ _ turn.invariant.1 (took.result ∷ []) (members took.new.left) (taken_first took.ensures) _ _
-          placed.ensures placed.auto.1.1.1.0,
+          placed.ensures placed.auto.last,
     )
 
 same_length : tie.Need-shape_of-last invariant-loop decreases-loop

@@ -14,21 +14,21 @@ use Rattle.oatmist.proofs.convention.hand.Tie as tie
 handed_as : {a : Answer} (b : Answer) → a ≡ b → (r : ℕ) (old new : List ℕ) → CAnswer (outcome_of b) r old new → CAnswer (outcome_of a) r old new
 handed_as b e r old new h = subst (λ (x : Answer). CAnswer (outcome_of x) r old new) (sym e) h
 
-refusal-word-requires : tie.Need-refusal-word-requires
+refusal-word-requires : tie.Need-refusal_word-requires
 refusal-word-requires c κs =
-    let p = subst (λ (x : Answer). FitsWord (outcome_of x)) c.before.told3.given.1 c.before.before.before.before.requires in
+    let p = subst (λ (x : Answer). FitsWord (outcome_of x)) c.in-Refused.is c.requires in
     (p.1, p.2, p.3)
 
-returns : tie.Need-returns
+returns : tie.Need-returns-in-Accepted
 returns c =
     let made = c.before.before in
-    handed_as _ made.before.before.before.told.given.1 made.hand-sizes.result _ _ made.hand-sizes.ensures
+    handed_as _ c.in-Accepted.is made.hand_sizes.result _ _ made.hand_sizes.ensures
 
-returns-2 : tie.Need-returns-2
-returns-2 c = let f = c.before.before in handed_as _ f.before.before.before.before.told2.given.1 0 _ _ (refl, f.fill.ensures)
+returns-2 : tie.Need-returns-in-Given
+returns-2 c = let f = c.before.before in handed_as _ c.in-Given.is 0 _ _ (refl, f.fill.ensures)
 
-returns-3 : tie.Need-returns-3
-returns-3 c = handed_as _ c.before.before.told3.given.1 _ _ _ (c.refusal-word.ensures, refl)
+returns-3 : tie.Need-returns-in-Refused
+returns-3 c = handed_as _ c.in-Refused.is _ _ _ (c.refusal_word.ensures, refl)
 
 pub hand_spec : {M : Type 1} → statement M
 hand_spec =

@@ -29,9 +29,9 @@ returns c =
     let a = first.before.before.before.args in
     let z = a.sizes in (
       refl,
-      fourth.put4.ensures
-          ∙ ap (λ (l : List ℕ). set l 3 z.s) third.put3.ensures
-          ∙ ap (λ (l : List ℕ). set (set l 2 z.t) 3 z.s) second.put2.ensures
+      fourth.put-4.ensures
+          ∙ ap (λ (l : List ℕ). set l 3 z.s) third.put-3.ensures
+          ∙ ap (λ (l : List ℕ). set (set l 2 z.t) 3 z.s) second.put-2.ensures
           ∙ ap (λ (l : List ℕ). set (set (set l 1 z.m) 2 z.t) 3 z.s) first.put.ensures
           ∙ set_four z.n z.m z.t z.s a.out.now,
     )

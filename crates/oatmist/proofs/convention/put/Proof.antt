@@ -6,7 +6,7 @@ use borrow.Author.Rules.{rules}
 use Rattle.oatmist.proofs.convention.put.Statement.{statement}
 use Rattle.oatmist.proofs.convention.put.Tie as tie
 
-returns-2 : tie.Need-returns-2
+returns-2 : tie.Need-returns-else-k-out
 returns-2 c = sym (set_out _ _ _ (search rules))
 
 pub put_spec : {M : Type 1} → statement M

@@ -12,7 +12,7 @@ use Rattle.reading.proofs.records.action_unused.Tie as tie
 
 returns : tie.Need-returns
 returns c =
-    let f = c.before.all_actions in
+    let f = c.before.all_actions-all in
     let u = c.actions_used in
     ap (λ (all : ℕ). not (eqb (bit_and u.result all) all)) f.ensures
     ∙ lacks u.result c.before.before.before.args.m _ u.ensures.exact

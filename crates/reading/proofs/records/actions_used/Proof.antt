@@ -27,24 +27,24 @@ one_more l j all x e h =
           ∙ sym (any_of_below_more (λ i. member (alphabet_at l i) a) j);
     }
 
-abbrev invariant-loop : tie.invariant-loop
+abbrev invariant-loop : tie.invariant-loop-j
 invariant-loop records n all₀ j₀ all j = (j ≤ n) × UnionOfAlphabets records j all
 
-abbrev decreases-loop : tie.decreases-loop
+abbrev decreases-loop : tie.decreases-loop-j
 decreases-loop records n all₀ j₀ all j = n - j
 
-loop-holds : tie.Need-loop-init invariant-loop decreases-loop
+loop-holds : tie.Need-loop-j-init invariant-loop decreases-loop
 loop-holds c = (omega arith, none_yet c.before.args.records.now)
 
-loop-again : tie.Need-loop-preserved invariant-loop decreases-loop
+loop-again : tie.Need-loop-j-preserved invariant-loop decreases-loop
 loop-again c =
-    let l = c.before.before.loop in
-    let x = c.alphabet in
+    let l = c.before.before.loop-j in
+    let x = c.alphabet-all in
     (omega arith, one_more c.before.before.before.before.args.records.now l.j l.all x.result x.ensures l.invariant.1)
 
 returns : tie.Need-returns invariant-loop decreases-loop
 returns c =
-    let l = c.before.loop in
+    let l = c.before.loop-j in
     let a = c.before.before.before.args in
     let last : l.j ≡ a.n = omega arith in
     rw last at l.invariant.1

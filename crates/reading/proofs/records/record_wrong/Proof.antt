@@ -36,29 +36,29 @@ module _ (b : List ℕ) (m j s : ℕ) (e : s ≡ get_or b (16 * j) 0) where
 states_fit : (s : ℕ) (r : Bool) → r ≡ outside 1 32 s → r ≡ false → s ≤ 64
 states_fit s r e f = omega (arith, ((inside 1 32 s).0 (sym e ∙ f)).1)
 
-returns : tie.Need-returns
+returns : tie.Need-returns-then-out_of_range
 returns c =
     let k = c.before in
     let a = k.before.before.before.before.args in
-    let w = k.before.wide in
-    states_wrong a.records.now a.m a.j w.result w.ensures.0 (sym k.out_of_range.ensures ∙ c.if1.true)
+    let w = k.before.wide-states in
+    states_wrong a.records.now a.m a.j w.result w.ensures.0 (sym k.out_of_range.ensures ∙ c.if-out_of_range.true)
 
 misses-requires : tie.Need-misses-requires
 misses-requires c κs =
     let e = c.before.before in
-    states_fit e.before.before.wide.result e.before.out_of_range.result e.before.out_of_range.ensures e.if1.false
+    states_fit e.before.before.wide-states.result e.before.out_of_range.result e.before.out_of_range.ensures e.if-out_of_range.false
 
-returns-2 : tie.Need-returns-2
+returns-2 : tie.Need-returns
 returns-2 c =
     let i = c.before.before in
     let f = i.before.before in
     let k = f.before.before in
     let a = k.before.before.before.before.args in
-    let w = k.before.wide in
-    sets_tested a.records.now a.m a.j w.result w.ensures.0 f.filler-set.result i.misses.result c.misses2.result
-    (sym k.out_of_range.ensures ∙ f.before.if1.false) f.filler-set.ensures
+    let w = k.before.wide-states in
+    sets_tested a.records.now a.m a.j w.result w.ensures.0 f.filler_set.result i.misses.result c.misses-2.result
+    (sym k.out_of_range.ensures ∙ f.before.if-out_of_range.false) f.filler_set.ensures
     (i.misses.ensures ∙ ap (missing w.result) i.before.number4.ensures.0)
-    (c.misses2.ensures ∙ ap (missing a.m) c.before.number8.ensures)
+    (c.misses-2.ensures ∙ ap (missing a.m) c.before.number8.ensures)
 
 pub record_wrong_spec : {M : Type 1} → statement M
 record_wrong_spec =

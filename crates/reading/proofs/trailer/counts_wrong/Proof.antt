@@ -8,10 +8,10 @@ use Rattle.reading.proofs.trailer.counts_wrong.Tie as tie
 
 returns : tie.Need-returns
 returns c =
-    let second = c.before.wide2 in
+    let second = c.before.wide-2 in
     let tested = c.before.before.before in
     let first = tested.before.wide in
-    ap₂ (λ (p q : Bool). p || q) tested.out_of_range.ensures c.out-of-range2.ensures
+    ap₂ (λ (p q : Bool). p || q) tested.out_of_range.ensures c.out_of_range-2.ensures
     ∙ sym (counts_read tested.before.before.before.before.args.sheet.now first.result second.result first.ensures.0
     second.ensures.0)
 

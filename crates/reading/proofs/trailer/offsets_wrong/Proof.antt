@@ -27,23 +27,23 @@ module _ (b : List ℕ) (c t s : ℕ) (ec : c ≡ field (length b - 10) 2 b) (et
   unfolding offsets_wrong records_at transitions_at steps_at
   steps_placed h n en x y ex ey = rw (← ec, ← et, ← es, h, or-false, components_read b, ← en, ex, ey) (simp or_assoc)
 
-abbrev sheet_at : tie.After-out-of-range → List ℕ
+abbrev sheet_at : tie.After-out_of_range → List ℕ
 sheet_at c = c.before.before.before.before.before.args.sheet.now
 
-returns : tie.Need-returns
+returns : tie.Need-returns-then-out_of_range
 returns c =
     let k = c.before in
     let s = k.before in
     let t = s.before in
     let o = t.before in
-    steps_misplaced (sheet_at k) o.number2.result t.number22.result s.number23.result o.number2.ensures.0 t.number22.ensures.0
-    s.number23.ensures.0 (sym k.out_of_range.ensures ∙ c.if1.true)
+    steps_misplaced (sheet_at k) o.number2-c.result t.number2-t.result s.number2-s.result o.number2-c.ensures.0 t.number2-t.ensures.0
+    s.number2-s.ensures.0 (sym k.out_of_range.ensures ∙ c.if-out_of_range.true)
 
-within : (c : tie.Else1) → let s = c.before.before in
-    (s.before.number22.result ≤ s.number23.result) × (s.number23.result ≤ length (sheet_at c.before) - 10)
-within c = (inside _ _ _).0 (sym c.before.out_of_range.ensures ∙ c.if1.false)
+within : (c : tie.Else-out_of_range) → let s = c.before.before in
+    (s.before.number2-t.result ≤ s.number2-s.result) × (s.number2-s.result ≤ length (sheet_at c.before) - 10)
+within c = (inside _ _ _).0 (sym c.before.out_of_range.ensures ∙ c.if-out_of_range.false)
 
-returns-2 : tie.Need-returns-2
+returns-2 : tie.Need-returns
 returns-2 c =
     let w = c.before.before in
     let e = w.before.before in
@@ -51,10 +51,10 @@ returns-2 c =
     let s = k.before in
     let t = s.before in
     let o = t.before in
-    steps_placed (sheet_at k) o.number2.result t.number22.result s.number23.result o.number2.ensures.0 t.number22.ensures.0
-    s.number23.ensures.0 (sym k.out_of_range.ensures ∙ e.if1.false) w.wide.result w.wide.ensures.0
-    c.before.section-length-wrong.result c.section-length-wrong2.result
-    c.before.section-length-wrong.ensures c.section-length-wrong2.ensures
+    steps_placed (sheet_at k) o.number2-c.result t.number2-t.result s.number2-s.result o.number2-c.ensures.0 t.number2-t.ensures.0
+    s.number2-s.ensures.0 (sym k.out_of_range.ensures ∙ e.if-out_of_range.false) w.wide.result w.wide.ensures.0
+    c.before.section_length_wrong.result c.section_length_wrong-2.result
+    c.before.section_length_wrong.ensures c.section_length_wrong-2.ensures
 
 pub offsets_wrong_spec : {M : Type 1} → statement M
 offsets_wrong_spec =

@@ -8,8 +8,8 @@ use Rattle.reading.proofs.transitions.key.Tie as tie
 returns : tie.Need-returns
 returns c =
     let a = c.before.before.before in
-    heavy_pairs a.args.at a.args.s.now a.requires c.before.two_bytes.result c.two-bytes2.result c.before.two_bytes.ensures.0
-    c.two-bytes2.ensures.0
+    heavy_pairs a.args.at a.args.s.now a.requires c.before.two_bytes.result c.two_bytes-2.result c.before.two_bytes.ensures.0
+    c.two_bytes-2.ensures.0
 
 pub key_spec : {M : Type 1} → statement M
 key_spec =

@@ -3,7 +3,6 @@
 -- The measure is how many transitions are left. Assumes nothing.
 use mathlib.Core.Path.{◌≡◌, refl, sym, ap, ap₂, ◌∙◌}
 use mathlib.Core.Bool.{Bool, true, false, not, ◌||◌}
-use mathlib.Core.Logic.{⊎_elim}
 use mathlib.Core.List.{List, map}
 use Prim.Native.Nat.{ℕ, ◌+◌, ◌*◌, ◌/◌, ◌-◌, ◌≤◌, ◌<◌}
 use native.Mathlib.Omega.{arith}
@@ -22,6 +21,7 @@ use Rattle.reading.proofs.transitions.Order.{falls_behind, falls_first, falls_ne
 use Rattle.reading.proofs.transitions.Standing.{standing, transition_at_fact}
 use Rattle.reading.proofs.transitions.refusal.Statement.{statement}
 use Rattle.reading.proofs.transitions.refusal.Tie as tie
+use Rattle.reading.proofs.transitions.refusal.Lts.{then-component-current+else-n-component, else-component-current}
 
 -- ---- the transitions from part k on
 
@@ -67,134 +67,140 @@ kept : {l : List ℕ} {n : ℕ} (component i s a j states alphabet : ℕ) → At
     → alphabet ≡ a → (j ≡ component) × AtHand l n j states alphabet
 kept component i s a j states alphabet h e f g k = (f ∙ e, rw (f, g, k) h)
 
-abbrev invariant-loop : tie.invariant-loop
+abbrev invariant-loop : tie.invariant-loop-current
 invariant-loop section records n count current₀ states₀ alphabet₀ last₀ falls₀ k₀ current states alphabet last falls k =
     (count ≡ length section / 4) × (k < count) × AtHand records n current states alphabet
     × ((T : Tables) → Decoded T n records → any_of (transition_wrong T) (transitions_in section) ≡ left T count k section)
     × (not (rising_bytes (parts 4 count section)) ≡ (falls || falls_behind last (parts_from 4 count (k + 1) section)))
 
-abbrev decreases-loop : tie.decreases-loop
+abbrev decreases-loop : tie.decreases-loop-current
 decreases-loop section records n count current₀ states₀ alphabet₀ last₀ falls₀ k₀ current states alphabet last falls k = count - k
 
 -- no transition
-returns : tie.Need-returns invariant-loop decreases-loop
+returns : tie.Need-returns-then-count-eq0 invariant-loop decreases-loop
 returns c T D =
     let b = c.before.before.before.args.section.now in
     sym
-    (ap (λ (m : ℕ). seven_or_eight (any_of (transition_wrong T) (map transition_of (parts 4 m b))) (not (rising_bytes (parts 4 m b)))) c.if1.true)
+    (ap (λ (m : ℕ). seven_or_eight (any_of (transition_wrong T) (map transition_of (parts 4 m b))) (not (rising_bytes (parts 4 m b)))) c.if-count-eq0.true)
 
-loop-holds : tie.Need-loop-init invariant-loop decreases-loop
+loop-holds : tie.Need-loop-current-init invariant-loop decreases-loop
 loop-holds c =
     let e = c.before.before.before in
     let s = e.before.before.before in
     let b = s.args.section.now in
     let n = length b / 4 in
-    let some : 0 < n = let h = e.if1.false in omega arith in (
+    let some : 0 < n = let h = e.if-count-eq0.false in omega arith in (
       refl,
       some,
-      record { below = omega arith; states_read = c.before.before.states.ensures; alphabet_read = c.before.alphabet.ensures },
+      record { below = omega arith; states_read = c.before.before.states-states.ensures; alphabet_read = c.before.alphabet-alphabet.ensures },
       λ T D. ap (λ (l : List (List ℕ)). any_of (transition_wrong T) (map transition_of l)) (sym (parts_first 4 n b)),
-      falls_first n b (λ i. (e.before.before.shared-slice-known.given i).fits) (omega arith) some c.key.result c.key.ensures,
+      falls_first n b (λ i. (e.shared_slice_known-1.given i).fits) (omega arith) some c.key-last.result c.key-last.ensures,
     )
 
 -- the arguments
-abbrev start : tie.At-loop invariant-loop decreases-loop → tie.Start invariant-loop decreases-loop
+abbrev start : tie.At-loop-current invariant-loop decreases-loop → tie.Start invariant-loop decreases-loop
 start c = c.before.before.before.before.before.before.before
 
-abbrev bytes-at : tie.At-loop invariant-loop decreases-loop → List ℕ
+abbrev bytes-at : tie.At-loop-current invariant-loop decreases-loop → List ℕ
 bytes-at c = (start c).args.section.now
 
-abbrev Wanted : tie.At-loop invariant-loop decreases-loop → Tables → Type 0
+abbrev Wanted : tie.At-loop-current invariant-loop decreases-loop → Tables → Type 0
 Wanted c T = Decoded T (start c).args.n (start c).args.records.now
 
 -- what part k is to be answered
-abbrev due : tie.At-loop invariant-loop decreases-loop → Tables → Bool
-due c T = transition_wrong T (transition_of (take 4 (drop (4 * c.loop.k) (bytes-at c))))
+abbrev due : tie.At-loop-current invariant-loop decreases-loop → Tables → Bool
+due c T = transition_wrong T (transition_of (take 4 (drop (4 * c.loop-current.k) (bytes-at c))))
 
 -- what is left at part k, by the answer to part k
-passed : (c : tie.At-loop invariant-loop decreases-loop) (T : Tables) → Wanted c T → (r told : Bool) → told ≡ due c T → told ≡ r
-    → any_of (transition_wrong T) (transitions_in (bytes-at c)) ≡ (r || left T (length (bytes-at c) / 4) (c.loop.k + 1) (bytes-at c))
+passed : (c : tie.At-loop-current invariant-loop decreases-loop) (T : Tables) → Wanted c T → (r told : Bool) → told ≡ due c T → told ≡ r
+    → any_of (transition_wrong T) (transitions_in (bytes-at c)) ≡ (r || left T (length (bytes-at c) / 4) (c.loop-current.k + 1) (bytes-at c))
 passed c T D r told f e =
-    let l = c.loop in
+    let l = c.loop-current in
     left_next T (length (bytes-at c) / 4) l.k (bytes-at c) _ told r l.invariant.1 (l.invariant.3 T D) f e
 
 -- 7 where part k does not fit
-seven : (c : tie.At-loop invariant-loop decreases-loop) (T : Tables) → Wanted c T → (told q : Bool) → told ≡ due c T → told ≡ true
+seven : (c : tie.At-loop-current invariant-loop decreases-loop) (T : Tables) → Wanted c T → (told q : Bool) → told ≡ due c T → told ≡ true
     → 7 ≡ seven_or_eight (any_of (transition_wrong T) (transitions_in (bytes-at c))) q
 seven c T D told q f e = sym (ap (λ (t : Bool). seven_or_eight t q) (passed c T D true told f e))
 
-returns-2 : tie.Need-returns-2 invariant-loop decreases-loop
+returns-2 : tie.Need-returns-then-n-component invariant-loop decreases-loop
 returns-2 c T D =
     let i = c.before.before.before in
     let n = D.count in
-    let h = c.if3.true in
-    seven i T D true _ (component_wrong_fact T (bytes-at i) (4 * i.loop.k) (omega arith)) refl
+    let h = c.if-n-component.true in
+    seven i T D true _ (component_wrong_fact T (bytes-at i) (4 * i.loop-current.k) (omega arith)) refl
 
 -- behind the branch the component's is at hand
-at_hand : (c : tie.Joined2 invariant-loop decreases-loop)
+at_hand : (c : tie.Joined-component-current invariant-loop decreases-loop)
     → let i = c.before.before in
     let a = (start i).args in
-    (c.if2.current ≡ get_or (bytes-at i) (4 * i.loop.k) 0)
-    × AtHand a.records.now a.n c.if2.current c.if2.states c.if2.alphabet
+    (c.if-component-current.current ≡ get_or (bytes-at i) (4 * i.loop-current.k) 0)
+    × AtHand a.records.now a.n c.if-component-current.current c.if-component-current.states c.if-component-current.alphabet
 at_hand c =
     let i = c.before.before in
-    let l = i.loop in
+    let l = i.loop-current in
     let component = get_or (bytes-at i) (4 * l.k) 0 in
-    ⊎_elim
-    (λ w.
-    kept component component w.2.result w.3.result c.if2.current c.if2.states c.if2.alphabet
-    (record { below = w.1.left; states_read = w.2.ensures; alphabet_read = w.3.ensures }) refl w.4 w.5 w.6)
-    (λ w.
-    kept component l.current l.states l.alphabet c.if2.current c.if2.states c.if2.alphabet
-    l.invariant.2 (sym w.0.left) w.1 w.2 w.3)
-    c.if2.branch
+    let j = c.if-component-current in
+    elim j.branch [
+      | then-component-current+else-n-component w ↦
+          kept component component w.states-states-then-component-current.result w.alphabet-alphabet-then-component-current.result j.current j.states j.alphabet
+          (record {
+            below = w.if-n-component.false;
+            states_read = w.states-states-then-component-current.ensures;
+            alphabet_read = w.alphabet-alphabet-then-component-current.ensures;
+          })
+          refl w.current-is w.states-is w.alphabet-is
+      | else-component-current w ↦
+          kept component l.current l.states l.alphabet j.current j.states j.alphabet l.invariant.2 (sym w.if-component-current.false)
+          w.current-is w.states-is w.alphabet-is
+    ]
 
 -- the answer to part k
-tested : (c : tie.After-transition-wrong invariant-loop decreases-loop) (T : Tables) → Wanted c.before.before.before T
-    → c.transition-wrong.result ≡ due c.before.before.before T
-tested c T D = let h = at_hand c.before in c.transition-wrong.ensures T (component_has T D (rw h.0 at h.1))
+tested : (c : tie.After-transition_wrong invariant-loop decreases-loop) (T : Tables) → Wanted c.before.before.before T
+    → c.transition_wrong.result ≡ due c.before.before.before T
+tested c T D = let h = at_hand c.before in c.transition_wrong.ensures T (component_has T D (rw h.0 at h.1))
 
-returns-3 : tie.Need-returns-3 invariant-loop decreases-loop
+returns-3 : tie.Need-returns-then-transition_wrong invariant-loop decreases-loop
 returns-3 c T D =
-    seven c.before.before.before.before T D c.before.transition-wrong.result _ (tested c.before T D) c.if4.true
+    seven c.before.before.before.before T D c.before.transition_wrong.result _ (tested c.before T D) c.if-transition_wrong.true
 
 -- part k fits
-fits_here : (c : tie.Else4 invariant-loop decreases-loop) (T : Tables)
+fits_here : (c : tie.Else-transition_wrong invariant-loop decreases-loop) (T : Tables)
     → let i = c.before.before.before.before in
-    Wanted i T → any_of (transition_wrong T) (transitions_in (bytes-at i)) ≡ left T (length (bytes-at i) / 4) (i.loop.k + 1) (bytes-at i)
+    Wanted i T → any_of (transition_wrong T) (transitions_in (bytes-at i)) ≡ left T (length (bytes-at i) / 4) (i.loop-current.k + 1) (bytes-at i)
 fits_here c T D =
     let t = c.before in
-    passed t.before.before.before T D false t.transition-wrong.result (tested t T D) c.if4.false
+    passed t.before.before.before T D false t.transition_wrong.result (tested t T D) c.if-transition_wrong.false
 
 -- it was the last one: the order is wrong exactly when the flag says so
-returns-4 : tie.Need-returns-4 invariant-loop decreases-loop
+returns-4 : tie.Need-returns-then-k-count invariant-loop decreases-loop
 returns-4 c T D =
     let f = c.before.before in
     let i = f.before.before.before.before in
-    let l = i.loop in
+    let l = i.loop-current in
     let b = bytes-at i in
     let n = length b / 4 in
-    let over : n ≤ l.k + 1 = let h = c.before.if5.true in omega arith in
+    let over : n ≤ l.k + 1 = let h = c.before.if-k-count.true in omega arith in
     let none = parts_none 4 n (l.k + 1) b over in
-    c.eight-if.ensures
+    c.eight_if.ensures
     ∙ sym
     (ap₂ (λ (p q : Bool). seven_or_eight p q)
     (fits_here f T D ∙ ap (λ (ps : List (List ℕ)). any_of (transition_wrong T) (map transition_of ps)) none)
     (falls_end n (l.k + 1) b l.last l.falls _ l.invariant.4 over))
 
-loop-again : tie.Need-loop-preserved invariant-loop decreases-loop
+loop-again : tie.Need-loop-current-preserved invariant-loop decreases-loop
 loop-again c =
     let f = c.before.before in
     let i = f.before.before.before.before in
-    let l = i.loop in
+    let l = i.loop-current in
     let b = bytes-at i in
     let n = length b / 4 in
-    let more : l.k + 1 < n = let h = c.before.if5.false in let g = l.invariant.1 in omega arith in (
+    let more : l.k + 1 < n = let h = c.before.if-k-count.false in let g = l.invariant.1 in omega arith in (
       refl,
       more,
       (at_hand f.before.before).1,
       fits_here f,
-      falls_next n (l.k + 1) b l.last l.falls _ l.invariant.4 more c.key2.result c.key2.ensures,
+      falls_next n (l.k + 1) b l.last l.falls _ l.invariant.4 more c.key-read.result c.key-read.ensures,
     )
 
 pub refusal_spec : {M : Type 1} → statement M
@@ -206,11 +212,11 @@ refusal_spec =
     returns
     (λ c κs. search rules)
     (λ c κs. search rules)
-    (λ c κs. let h = c.before.before.if1.false in omega arith)
+    (λ c κs. let h = c.before.before.if-count-eq0.false in omega arith)
     loop-holds
     (λ c. search rules)
     (λ c. search rules)
-    (λ c. omega (arith, c.shared-slice-known3.given (4 * c.before.loop.k)))
+    (λ c. omega (arith, c.shared_slice_known-in-loop-current-1.given (4 * c.before.loop-current.k)))
     returns-2
     (λ c κs. search rules)
     (λ c κs. search rules)
@@ -221,6 +227,6 @@ refusal_spec =
     (λ c κs. search rules)
     returns-4
     (λ c. search rules)
-    (λ c κs. let h = c.if5.false in omega arith)
-    (λ c. let h = c.before.if5.false in omega arith)
+    (λ c κs. let h = c.if-k-count.false in omega arith)
+    (λ c. let h = c.before.if-k-count.false in omega arith)
     loop-again)

@@ -28,25 +28,25 @@ told T b at states alphabet h p q r e f g = here ∙ ap (transition_wrong T) (tr
     here : ((p || q) || r) ≡ transition_wrong T (standing b at)
     here = rw ((leb_false T.components (get_or b at 0)).1 h.known, ← h.states_known, ← h.alphabet_known, e, f, g)
 
-returns : tie.Need-returns
+returns : tie.Need-returns-then-states-section
 returns c T h =
     let a = c.before.before.before.args in
-    told T a.section.now a.at a.states a.alphabet h true _ _ ((leb_true a.states _).1 c.if1.true) refl refl
+    told T a.section.now a.at a.states a.alphabet h true _ _ ((leb_true a.states _).1 c.if-states-section.true) refl refl
 
-returns-2 : tie.Need-returns-2
+returns-2 : tie.Need-returns-then-states-section-2
 returns-2 c T h =
     let e = c.before.before in
     let a = e.before.before.before.args in
     told T a.section.now a.at a.states a.alphabet h false true _
-    ((leb_false a.states _).1 e.if1.false) ((leb_true a.states _).1 c.if2.true) refl
+    ((leb_false a.states _).1 e.if-states-section.false) ((leb_true a.states _).1 c.if-states-section-2.true) refl
 
-returns-3 : tie.Need-returns-3
+returns-3 : tie.Need-returns
 returns-3 c T h =
     let f = c.before.before in
     let e = f.before.before in
     let a = e.before.before.before.args in
-    told T a.section.now a.at a.states a.alphabet h false false c.label-wrong.result
-    ((leb_false a.states _).1 e.if1.false) ((leb_false a.states _).1 f.if2.false) (sym c.label-wrong.ensures)
+    told T a.section.now a.at a.states a.alphabet h false false c.label_wrong.result
+    ((leb_false a.states _).1 e.if-states-section.false) ((leb_false a.states _).1 f.if-states-section-2.false) (sym c.label_wrong.ensures)
 
 pub transition_wrong_spec : {M : Type 1} → statement M
 transition_wrong_spec =
@@ -54,11 +54,11 @@ transition_wrong_spec =
     (tie.spec
     (λ c. search rules)
     (λ c. search rules)
-    (λ c. omega (arith, c.shared-slice-known2.given (c.before.before.args.at + 1)))
+    (λ c. omega (arith, c.shared_slice_known-2-1.given (c.before.before.args.at + 1)))
     returns
     (λ c. search rules)
     (λ c. search rules)
-    (λ c. omega (arith, c.shared-slice-known3.given (c.before.before.before.before.args.at + 3)))
+    (λ c. omega (arith, c.shared_slice_known-3-1.given (c.before.before.before.before.args.at + 3)))
     returns-2
     (λ c. search rules)
     (λ c. search rules)

@@ -25,8 +25,8 @@ returns : tie.Need-returns
 returns c =
     let a = c.before.before.before.before.before.before.before.args in
     let p = c.before.before.before.before.before.before.before.requires in
-    first_line a.sheet.now a.sizes.s _ _ _ _ p.0.sizes_read.s_read refl p.1 c.before.before.figure-with.ensures
-    (c.bit.ensures ∙ ap bit c.before.stuck_at.ensures)
+    first_line a.sheet.now a.sizes.s _ _ _ _ p.0.sizes_read.s_read refl p.1 c.before.before.figure_with-figure.ensures
+    (c.bit-stuck.ensures ∙ ap bit c.before.stuck_at.ensures)
 
 pub summary_numbers_spec : {M : Type 1} → statement M
 summary_numbers_spec =

@@ -24,23 +24,23 @@ more bytes limit fits i h = (
   λ all. (and_true fits (ltb (get_or bytes i 0) limit)).1 (h.1 (λ k l. all k (omega arith)), (ltb_true (get_or bytes i 0) limit).1 (all i (omega arith))),
 )
 
-abbrev invariant-loop : tie.invariant-loop
+abbrev invariant-loop : tie.invariant-loop-i
 invariant-loop bytes limit fits₀ i₀ fits i = (i ≤ length bytes) × ((fits ≡ true) ↔ ((k : ℕ) → k < i → get_or bytes k 0 < limit))
 
-abbrev decreases-loop : tie.decreases-loop
+abbrev decreases-loop : tie.decreases-loop-i
 decreases-loop bytes limit fits₀ i₀ fits i = length bytes - i
 
-loop-holds : tie.Need-loop-init invariant-loop decreases-loop
+loop-holds : tie.Need-loop-i-init invariant-loop decreases-loop
 loop-holds c = (omega arith, (λ e k l. absurd (omega arith), λ h. refl))
 
-loop-again : tie.Need-loop-preserved invariant-loop decreases-loop
+loop-again : tie.Need-loop-i-preserved invariant-loop decreases-loop
 loop-again c =
     let k = c.before.before in
-    (omega arith, more k.before.args.bytes.now k.before.args.limit _ k.loop.i k.loop.invariant.1)
+    (omega arith, more k.before.args.bytes.now k.before.args.limit _ k.loop-i.i k.loop-i.invariant.1)
 
 returns : tie.Need-returns invariant-loop decreases-loop
 returns c =
-    let l = c.before.loop in (
+    let l = c.before.loop-i in (
       λ e i h. l.invariant.1.0 e i (omega arith),
       λ all. l.invariant.1.1 (λ k h. all k (omega arith)),
     )

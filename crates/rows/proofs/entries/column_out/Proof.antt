@@ -10,49 +10,49 @@ use Rattle.rows.proofs.entries.Columns.{out_at, number_told_fact, column_found, 
 use Rattle.rows.proofs.entries.column_out.Statement.{statement}
 use Rattle.rows.proofs.entries.column_out.Tie as tie
 
-abbrev invariant-loop : tie.invariant-loop
+abbrev invariant-loop : tie.invariant-loop-g
 invariant-loop product n m j count g₀ g = (g ≤ m) × ((k : ℕ) → k < g → out_at product j k ≡ false)
 
-abbrev decreases-loop : tie.decreases-loop
+abbrev decreases-loop : tie.decreases-loop-g
 decreases-loop product n m j count g₀ g = m - g
 
-loop-holds : tie.Need-loop-init invariant-loop decreases-loop
+loop-holds : tie.Need-loop-g-init invariant-loop decreases-loop
 loop-holds c = (omega arith, λ k l. absurd (omega arith))
 
-number-at-requires : tie.Need-number-at-requires invariant-loop decreases-loop
+number-at-requires : tie.Need-number_at-requires invariant-loop decreases-loop
 number-at-requires c κs = let s = c.before.before.before in (s.requires.0, omega arith, s.requires.1)
 
-abbrev loop-at : tie.After-number-out invariant-loop decreases-loop → tie.At-loop invariant-loop decreases-loop
+abbrev loop-at : tie.After-number_out invariant-loop decreases-loop → tie.At-loop-g invariant-loop decreases-loop
 loop-at c = c.before.before.before
 
-abbrev start-at : tie.After-number-out invariant-loop decreases-loop → tie.Start invariant-loop decreases-loop
+abbrev start-at : tie.After-number_out invariant-loop decreases-loop → tie.Start invariant-loop decreases-loop
 start-at c = c.before.before.before.before.before
 
 -- what was asked of the number of row g
-told_at : (c : tie.After-number-out invariant-loop decreases-loop)
-    → c.number-out.result ≡ out_at (start-at c).args.product.now (start-at c).args.j (loop-at c).loop.g
+told_at : (c : tie.After-number_out invariant-loop decreases-loop)
+    → c.number_out.result ≡ out_at (start-at c).args.product.now (start-at c).args.j (loop-at c).loop-g.g
 told_at c =
     let s = start-at c in
     let a = s.args in
     let read = c.before.number_at in
-    c.number-out.ensures
-    ∙ number_told_fact a.product.now (loop-at c).loop.g a.j read.result a.count read.ensures s.pre.2
+    c.number_out.ensures
+    ∙ number_told_fact a.product.now (loop-at c).loop-g.g a.j read.result a.count read.ensures s.requires.2
 
-returns : tie.Need-returns invariant-loop decreases-loop
+returns : tie.Need-returns-then-number_out invariant-loop decreases-loop
 returns c =
     let k = c.before in
     let s = start-at k in
     let a = s.args in
-    column_found a.product.now a.n a.m a.j (loop-at k).loop.g s.pre.0 (omega arith) (sym (told_at k) ∙ c.if1.true)
+    column_found a.product.now a.n a.m a.j (loop-at k).loop-g.g s.requires.0 (omega arith) (sym (told_at k) ∙ c.if-number_out.true)
 
-loop-again : tie.Need-loop-preserved invariant-loop decreases-loop
-loop-again c = (omega arith, below_more _ _ c.before.before.before.before.loop.invariant.1 (sym (told_at c.before) ∙ c.if1.false))
+loop-again : tie.Need-loop-g-preserved invariant-loop decreases-loop
+loop-again c = (omega arith, below_more _ _ c.before.before.before.before.loop-g.invariant.1 (sym (told_at c.before) ∙ c.if-number_out.false))
 
-returns-2 : tie.Need-returns-2 invariant-loop decreases-loop
+returns-2 : tie.Need-returns invariant-loop decreases-loop
 returns-2 c =
     let s = c.before.before.before in
     let a = s.args in
-    let l = c.before.loop in
+    let l = c.before.loop-g in
     column_passed a.product.now a.n a.m a.j l.g s.requires.0 (omega arith) l.invariant.1
 
 pub column_out_spec : {M : Type 1} → statement M

@@ -9,16 +9,16 @@ use borrow.Author.Rules.{rules}
 use Rattle.rows.proofs.entries.with_row.Statement.{statement}
 use Rattle.rows.proofs.entries.with_row.Tie as tie
 
-returns : tie.Need-returns
+returns : tie.Need-returns-then-number-eq255
 returns c =
     let a = c.before.args in
-    sym (ap (λ (t : Bool). cond t a.set (with a.g a.set)) ((eqb_true a.number idle).1 c.if1.true))
+    sym (ap (λ (t : Bool). cond t a.set (with a.g a.set)) ((eqb_true a.number idle).1 c.if-number-eq255.true))
 
-returns-2 : tie.Need-returns-2
+returns-2 : tie.Need-returns
 returns-2 c =
     let a = c.before.before.args in
     c.with.ensures
-    ∙ sym (ap (λ (t : Bool). cond t a.set (with a.g a.set)) ((eqb_false a.number idle).1 c.before.if1.false))
+    ∙ sym (ap (λ (t : Bool). cond t a.set (with a.g a.set)) ((eqb_false a.number idle).1 c.before.if-number-eq255.false))
 
 pub with_row_spec : {M : Type 1} → statement M
 with_row_spec = tie.close (tie.spec returns (λ c κs. search rules) returns-2)

@@ -7,10 +7,10 @@ use Rattle.rows.proofs.judge.Looking.{counts_short, counts_told}
 use Rattle.rows.proofs.judge.counts_out.Statement.{statement}
 use Rattle.rows.proofs.judge.counts_out.Tie as tie
 
-returns : tie.Need-returns
-returns c = (λ e. absurd (true≢false e), λ f. absurd (counts_short c.before.args.product.now c.if1.true f))
+returns : tie.Need-returns-then-product-lt2
+returns c = (λ e. absurd (true≢false e), λ f. absurd (counts_short c.before.args.product.now c.if-product-lt2.true f))
 
-returns-2 : tie.Need-returns-2
+returns-2 : tie.Need-returns
 returns-2 c = counts_told c.before.before.before.args.product.now (omega arith)
 
 pub counts_out_spec : {M : Type 1} → statement M

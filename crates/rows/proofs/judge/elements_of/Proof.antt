@@ -11,19 +11,19 @@ use Rattle.rows.proofs.judge.Elements.{elements_from, count_start, count_more, c
 use Rattle.rows.proofs.judge.elements_of.Statement.{statement}
 use Rattle.rows.proofs.judge.elements_of.Tie as tie
 
-abbrev invariant-loop : tie.invariant-loop
+abbrev invariant-loop : tie.invariant-loop-j
 invariant-loop alphabets n sum₀ j₀ sum j =
     (j ≤ n) × (sum ≤ 64 * j) × (sum + length (elements_from alphabets j (n - j)) ≡ length (elements_of alphabets n))
 
-abbrev decreases-loop : tie.decreases-loop
+abbrev decreases-loop : tie.decreases-loop-j
 decreases-loop alphabets n sum₀ j₀ sum j = n - j
 
-loop-holds : tie.Need-loop-init invariant-loop decreases-loop
+loop-holds : tie.Need-loop-j-init invariant-loop decreases-loop
 loop-holds c = (omega arith, omega arith, count_start c.before.args.alphabets.now c.before.args.n)
 
-loop-again : tie.Need-loop-preserved invariant-loop decreases-loop
+loop-again : tie.Need-loop-j-preserved invariant-loop decreases-loop
 loop-again c =
-    let l = c.before.before.before.loop in
+    let l = c.before.before.before.loop-j in
     let a = c.before.before.before.before.before.args in (
       omega arith,
       omega arith,
@@ -32,7 +32,7 @@ loop-again c =
 
 returns : tie.Need-returns invariant-loop decreases-loop
 returns c =
-    let l = c.before.loop in
+    let l = c.before.loop-j in
     let a = c.before.before.before.args in
     (count_end a.alphabets.now a.n l.j l.sum _ (omega arith) l.invariant.2, omega arith)
 

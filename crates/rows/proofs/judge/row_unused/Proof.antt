@@ -12,8 +12,8 @@ use Rattle.rows.proofs.judge.row_unused.Tie as tie
 
 returns : tie.Need-returns
 returns c =
-    let f = c.before.rows_before in
-    let u = c.rows-used in
+    let f = c.before.rows_before-rows in
+    let u = c.rows_used in
     ap (λ (all : ℕ). not (eqb (bit_and u.result all) all)) f.ensures
     ∙ lacking_row u.result c.before.before.before.args.m _ u.ensures.exact
 

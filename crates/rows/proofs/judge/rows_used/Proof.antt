@@ -9,21 +9,21 @@ use Rattle.rows.proofs.judge.Alphabets.{union_none, union_more}
 use Rattle.rows.proofs.judge.rows_used.Statement.{statement}
 use Rattle.rows.proofs.judge.rows_used.Tie as tie
 
-abbrev invariant-loop : tie.invariant-loop
+abbrev invariant-loop : tie.invariant-loop-j
 invariant-loop alphabets n all₀ j₀ all j = (j ≤ n) × UnionOf alphabets j all
 
-abbrev decreases-loop : tie.decreases-loop
+abbrev decreases-loop : tie.decreases-loop-j
 decreases-loop alphabets n all₀ j₀ all j = n - j
 
-loop-holds : tie.Need-loop-init invariant-loop decreases-loop
+loop-holds : tie.Need-loop-j-init invariant-loop decreases-loop
 loop-holds c = (omega arith, union_none _)
 
-loop-again : tie.Need-loop-preserved invariant-loop decreases-loop
-loop-again c = (omega arith, union_more _ c.before.before.loop.j c.before.before.loop.all c.before.before.loop.invariant.1)
+loop-again : tie.Need-loop-j-preserved invariant-loop decreases-loop
+loop-again c = (omega arith, union_more _ c.before.before.loop-j.j c.before.before.loop-j.all c.before.before.loop-j.invariant.1)
 
 returns : tie.Need-returns invariant-loop decreases-loop
 returns c =
-    let l = c.before.loop in
+    let l = c.before.loop-j in
     let e : l.j ≡ c.before.before.args.n = omega arith in
     rw e at l.invariant.1
 

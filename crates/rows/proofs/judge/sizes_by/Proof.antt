@@ -17,7 +17,7 @@ returns c =
     let a = c.before.before.before.before.args in
     let t : c.before.before.front_length.result ≡ record_size * a.n = let e = c.before.before.front_length.ensures in omega arith in
     ap₂ (sizes a.n a.m) t
-    (c.front-length2.ensures ∙ ap (λ (k : ℕ). record_size * a.n + transition_size * k) c.before.elements-of.ensures.0)
+    (c.front_length-2.ensures ∙ ap (λ (k : ℕ). record_size * a.n + transition_size * k) c.before.elements_of.ensures.0)
 
 pub sizes_by_spec : {M : Type 1} → statement M
 sizes_by_spec = tie.close (tie.spec (λ c κs. search rules) (λ c κs. search rules) (λ c κs. search rules) returns)

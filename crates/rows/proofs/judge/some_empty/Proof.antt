@@ -13,28 +13,28 @@ use borrow.Author.Rules.{rules}
 use Rattle.rows.proofs.judge.some_empty.Statement.{statement}
 use Rattle.rows.proofs.judge.some_empty.Tie as tie
 
-abbrev invariant-loop : tie.invariant-loop
+abbrev invariant-loop : tie.invariant-loop-j
 invariant-loop alphabets n j₀ j = (j ≤ n) × ((k : ℕ) → k < j → eqb (get_or alphabets k 0) 0 ≡ false)
 
-abbrev decreases-loop : tie.decreases-loop
+abbrev decreases-loop : tie.decreases-loop-j
 decreases-loop alphabets n j₀ j = n - j
 
-loop-holds : tie.Need-loop-init invariant-loop decreases-loop
+loop-holds : tie.Need-loop-j-init invariant-loop decreases-loop
 loop-holds c = (omega arith, λ k l. absurd (omega arith))
 
-returns : tie.Need-returns invariant-loop decreases-loop
+returns : tie.Need-returns-then-alphabets-j-eq0 invariant-loop decreases-loop
 returns c =
     let a = c.before.before.before.before.args in
-    let j = c.before.before.before.loop.j in
-    found_below (λ i. eqb (get_or a.alphabets.now i 0) 0) a.n j (omega arith) ((eqb_true _ 0).1 c.if1.true)
+    let j = c.before.before.before.loop-j.j in
+    found_below (λ i. eqb (get_or a.alphabets.now i 0) 0) a.n j (omega arith) ((eqb_true _ 0).1 c.if-alphabets-j-eq0.true)
 
-loop-again : tie.Need-loop-preserved invariant-loop decreases-loop
-loop-again c = (omega arith, below_more _ _ c.before.before.before.loop.invariant.1 ((eqb_false _ 0).1 c.if1.false))
+loop-again : tie.Need-loop-j-preserved invariant-loop decreases-loop
+loop-again c = (omega arith, below_more _ _ c.before.before.before.loop-j.invariant.1 ((eqb_false _ 0).1 c.if-alphabets-j-eq0.false))
 
-returns-2 : tie.Need-returns-2 invariant-loop decreases-loop
+returns-2 : tie.Need-returns invariant-loop decreases-loop
 returns-2 c =
     let a = c.before.before.args in
-    let l = c.before.loop in
+    let l = c.before.loop-j in
     none_found (λ j. eqb (get_or a.alphabets.now j 0) 0) a.n l.j (omega arith) l.invariant.1
 
 pub some_empty_spec : {M : Type 1} → statement M

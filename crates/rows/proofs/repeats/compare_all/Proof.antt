@@ -3,73 +3,72 @@
 use mathlib.Core.Path.{sym, ◌∙◌}
 use Prim.Native.Nat.{◌-◌, ◌≤◌}
 use native.Mathlib.Omega.{arith}
-use Rattle.sets.proofs.Bools.{not_true}
 use borrow.Author.Rules.{rules}
 use Rattle.rows.specs.repeats.Earlier.{EarlierAgree}
 use Rattle.rows.proofs.repeats.Repeated.{none_left, repeats_told}
 use Rattle.rows.proofs.repeats.compare_all.Statement.{statement}
 use Rattle.rows.proofs.repeats.compare_all.Tie as tie
 
-abbrev invariant-loop : tie.invariant-loop
+abbrev invariant-loop : tie.invariant-loop-j
 invariant-loop product n m same₀ j₀ same j = (j ≤ n) × EarlierAgree product m j same
 
-abbrev decreases-loop : tie.decreases-loop
+abbrev decreases-loop : tie.decreases-loop-j
 decreases-loop product n m same₀ j₀ same j = n - j
 
 start-requires : tie.Need-start-requires invariant-loop decreases-loop
 start-requires c κs = let s = c.before.before.before in (s.requires.1, s.requires.0.few_rows)
 
-loop-holds : tie.Need-loop-init invariant-loop decreases-loop
+loop-holds : tie.Need-loop-j-init invariant-loop decreases-loop
 loop-holds c = (omega arith, c.before.before.start.ensures c.before.before.before.before.before.before.args.product.now)
 
-some-left-requires : tie.Need-some-left-requires invariant-loop decreases-loop
+some-left-requires : tie.Need-some_left-requires invariant-loop decreases-loop
 some-left-requires c κs =
-    let l = c.before.before in
-    let long = l.loop.invariant.1.size in
+    let l = c.before in
+    let long = l.loop-j.invariant.1.size in
     let few = l.before.before.before.before.before.before.before.requires.0.few_rows in
     omega arith
 
-same_length : tie.Need-same-length invariant-loop decreases-loop
+same_length : tie.Need-shape_of-same-then-not-some_left invariant-loop decreases-loop
 same_length c =
-    let l = c.before.before.before.before in
-    l.loop.invariant.1.size ∙ sym l.before.before.before.before.before.before.before.requires.1
+    let l = c.before.before.before in
+    l.loop-j.invariant.1.size ∙ sym l.before.before.before.before.before.before.before.requires.1
 
-returns : tie.Need-returns invariant-loop decreases-loop
+returns : tie.Need-returns-then-not-some_left invariant-loop decreases-loop
 returns c =
-    let l = c.before.before.before.before in
+    let l = c.before.before.before in
     let s = l.before.before.before.before.before.before.before in
     let a = s.args in
     let left = c.before.some_left in
-    none_left a.product.now a.n a.m l.loop.j l.loop.same s.requires.0 l.loop.invariant.1 l.loop.invariant.0
-    (sym left.ensures ∙ (not_true left.result).0 c.if1.true)
+    none_left a.product.now a.n a.m l.loop-j.j l.loop-j.same s.requires.0 l.loop-j.invariant.1 l.loop-j.invariant.0
+    (sym left.ensures ∙ c.if-not-some_left.true)
 
 compare-requires : tie.Need-compare-requires invariant-loop decreases-loop
 compare-requires c κs =
-    let l = c.before.before.before.before.before in
-    (l.before.before.before.before.before.before.before.requires.0, omega arith, l.loop.invariant.1)
+    let l = c.before.before.before.before in
+    (l.before.before.before.before.before.before.before.requires.0, omega arith, l.loop-j.invariant.1)
 
-loop-again : tie.Need-loop-preserved invariant-loop decreases-loop
+loop-again : tie.Need-loop-j-preserved invariant-loop decreases-loop
 loop-again c = (omega arith, c.before.before.compare.ensures)
 
-some-left-requires-2 : tie.Need-some-left-requires-2 invariant-loop decreases-loop
+some-left-requires-2 : tie.Need-some_left-requires-2 invariant-loop decreases-loop
 some-left-requires-2 c κs =
-    let l = c.before.before in
-    let long = l.loop.invariant.1.size in
+    let l = c.before in
+    let long = l.loop-j.invariant.1.size in
     let few = l.before.before.before.before.before.before.before.requires.0.few_rows in
     omega arith
 
-same-length-2 : tie.Need-same-length-2 invariant-loop decreases-loop
+same-length-2 : tie.Need-shape_of-same invariant-loop decreases-loop
 same-length-2 c =
-    let l = c.before.before.before in
-    l.loop.invariant.1.size ∙ sym l.before.before.before.before.before.before.before.requires.1
+    let l = c.before.before in
+    l.loop-j.invariant.1.size ∙ sym l.before.before.before.before.before.before.before.requires.1
 
-returns-2 : tie.Need-returns-2 invariant-loop decreases-loop
+returns-2 : tie.Need-returns invariant-loop decreases-loop
 returns-2 c =
-    let l = c.before.before.before in
+    let l = c.before.before in
     let s = l.before.before.before.before.before.before.before in
     let a = s.args in
-    c.some-left2.ensures
-    ∙ repeats_told a.product.now a.n a.m l.loop.j l.loop.same s.requires.0 l.loop.invariant.1 l.loop.invariant.0
+    c.some_left-2.ensures
+    ∙ repeats_told a.product.now a.n a.m l.loop-j.j l.loop-j.same s.requires.0 l.loop-j.invariant.1 l.loop-j.invariant.0
     (omega arith)
 
 pub compare_all_spec : {M : Type 1} → statement M

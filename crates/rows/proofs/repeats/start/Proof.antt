@@ -10,30 +10,30 @@ use Rattle.rows.proofs.repeats.Before.{started}
 use Rattle.rows.proofs.repeats.start.Statement.{statement}
 use Rattle.rows.proofs.repeats.start.Tie as tie
 
-abbrev invariant-loop : tie.invariant-loop
+abbrev invariant-loop : tie.invariant-loop-g
 invariant-loop same₀ m g₀ same g = (g ≤ m) × FilledUpTo rows_before 64 g same
 
-abbrev decreases-loop : tie.decreases-loop
+abbrev decreases-loop : tie.decreases-loop-g
 decreases-loop same₀ m g₀ same g = m - g
 
-loop-holds : tie.Need-loop-init invariant-loop decreases-loop
+loop-holds : tie.Need-loop-g-init invariant-loop decreases-loop
 loop-holds c = (omega arith, filled_none _ 64 c.before.args.same.now c.before.requires.0)
 
-slice-write-same : tie.Need-slice-write-same invariant-loop decreases-loop
-slice-write-same c = let long = c.before.before.loop.invariant.1.long in let few = c.before.before.before.before.requires.1 in omega arith
+slice-write-same : tie.Need-bounds-same-g invariant-loop decreases-loop
+slice-write-same c = let long = c.before.before.loop-g.invariant.1.long in let few = c.before.before.before.before.requires.1 in omega arith
 
-loop-again : tie.Need-loop-preserved invariant-loop decreases-loop
+loop-again : tie.Need-loop-g-preserved invariant-loop decreases-loop
 loop-again c =
-    let l = c.before.before.loop in
+    let l = c.before.before.loop-g in
     let few = c.before.before.before.before.requires.1 in
     (omega arith, filled_more _ 64 l.g l.same c.rows_before.result l.invariant.1 (omega arith) c.rows_before.ensures)
 
-same_length : tie.Need-same-length invariant-loop decreases-loop
-same_length c = c.before.loop.invariant.1.long ∙ sym c.before.before.before.requires.0
+same_length : tie.Need-shape_of-same invariant-loop decreases-loop
+same_length c = c.before.loop-g.invariant.1.long ∙ sym c.before.before.before.requires.0
 
 returns : tie.Need-returns invariant-loop decreases-loop
 returns c =
-    let l = c.before.loop in
+    let l = c.before.loop-g in
     started l.same c.before.before.before.args.m l.invariant.1.long (λ g k. l.invariant.1.each g (omega arith))
 
 pub start_spec : {M : Type 1} → statement M

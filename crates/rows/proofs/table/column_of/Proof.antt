@@ -10,10 +10,10 @@ use Rattle.rows.proofs.table.column_of.Tie as tie
 counts : (s : tie.Start) → CountsRead s.args.product.now s.args.sizes.n s.args.sizes.m
 counts s = counts_read s.args.product.now s.args.sizes.n s.args.sizes.m s.requires.0 s.requires.2 s.requires.3
 
-mul-t5 : tie.Need-overflow-mul-t5
+mul-t5 : tie.Need-offset_bounds-begins-j
 mul-t5 c = let few = (counts c).components_few in let l = c.requires.4 in search rules
 
-shared-slice-read-t7 : tie.Need-shared-slice-read-t7
+shared-slice-read-t7 : tie.Need-bounds-begins-j
 shared-slice-read-t7 c =
     let s = c.before in
     let few = (counts s).components_few in
@@ -21,13 +21,13 @@ shared-slice-read-t7 c =
     let l = s.requires.4 in
     omega arith
 
-mul-t10 : tie.Need-overflow-mul-t10
+mul-t10 : tie.Need-overflow_mul-result
 mul-t10 c = let few = (counts c.before.before).numbers_few in search rules
 
-sub-t11 : tie.Need-overflow-sub-t11
+sub-t11 : tie.Need-overflow_sub-result
 sub-t11 c = (counts c.before.before).numbers_inside
 
-add-t12 : tie.Need-overflow-add-t12
+add-t12 : tie.Need-overflow_add-result
 add-t12 c =
     let s = c.before.before in
     let few = (counts s).components_few in

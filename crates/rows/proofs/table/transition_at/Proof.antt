@@ -7,31 +7,31 @@ use Rattle.rows.proofs.table.Places.{entry_inside, transition_there}
 use Rattle.rows.proofs.table.transition_at.Statement.{statement}
 use Rattle.rows.proofs.table.transition_at.Tie as tie
 
-mul-number : tie.Need-overflow-mul-number
+mul-number : tie.Need-overflow_mul-number
 mul-number c =
     let s = c.before.before in
     let far = entry_inside s.args.product.now s.args.column s.requires.0 s.args.g s.requires.1 in
     search rules
 
-add-number : tie.Need-overflow-add-number
+add-number : tie.Need-overflow_add-number
 add-number c =
     let s = c.before.before.before in
     let far = entry_inside s.args.product.now s.args.column s.requires.0 s.args.g s.requires.1 in
     search rules
 
-shared-slice-read-number : tie.Need-shared-slice-read-number
+shared-slice-read-number : tie.Need-bounds-product-column
 shared-slice-read-number c =
     let s = c.before.before.before.before in
     let far = entry_inside s.args.product.now s.args.column s.requires.0 s.args.g s.requires.1 in
     far.1
 
-add-result : tie.Need-overflow-add-result
+add-result : tie.Need-overflow_add-result
 add-result c =
     let s = c.before.before.before.before.before in
     let r = (transition_there s.args.product.now s.args.column s.requires.0 s.args.g s.requires.1 _ refl).inside in
     search rules
 
-add-result-2 : tie.Need-overflow-add-result-2
+add-result-2 : tie.Need-overflow_add-result-2
 add-result-2 c =
     let s = c.before.before.before.before.before.before in
     let r = (transition_there s.args.product.now s.args.column s.requires.0 s.args.g s.requires.1 _ refl).inside in

@@ -28,17 +28,17 @@ next_row : (b : List ℕ) (j q : ℕ) {gs rest : List ℕ} {low : ℕ} → gs �
     → text b j q gs ≡ row_transition (product_of b) j q low ++ text b j q rest
 next_row b j q e = ap (text b j q) e
 
-abbrev invariant-loop : tie.invariant-loop
+abbrev invariant-loop : tie.invariant-loop-left
 invariant-loop product column q rows out₀ used₀ left₀ out used left =
     Within left rows × StillToWrite (state_part product column.j q) (text product column.j q (members left)) out₀ out used
 
-abbrev decreases-loop : tie.decreases-loop
+abbrev decreases-loop : tie.decreases-loop-left
 decreases-loop product column q rows out₀ used₀ left₀ out used left = left
 
-abbrev start : tie.At-loop invariant-loop decreases-loop → tie.Start invariant-loop decreases-loop
+abbrev start : tie.At-loop-left invariant-loop decreases-loop → tie.Start invariant-loop decreases-loop
 start c = c.before.before.before
 
-loop-holds : tie.Need-loop-init invariant-loop decreases-loop
+loop-holds : tie.Need-loop-left-init invariant-loop decreases-loop
 loop-holds c =
     let s = c.before.before in
     let a = s.args in
@@ -47,92 +47,92 @@ loop-holds c =
     let all = text b a.column.j a.q (members a.rows) in
     (λ g m. m, to_write_all (state_part b a.column.j a.q) all a.out.now (ap append_all whole) s.requires.2)
 
-transition-at-requires : tie.Need-transition-at-requires invariant-loop decreases-loop
+transition-at-requires : tie.Need-transition_at-at-requires invariant-loop decreases-loop
 transition-at-requires c κs =
     let at = c.before.before.before in
     let s = start at in
     let a = s.args in (
-      s.pre.0,
-      first_mine c.take-lowest.ensures a.rows at.loop.invariant.0 a.product.now a.column.j a.q s.pre.1,
+      s.requires.0,
+      first_mine c.take_lowest-g.ensures a.rows at.loop-left.invariant.0 a.product.now a.column.j a.q s.requires.1,
     )
 
-cast-write-transition : tie.Need-overflow-cast-write-transition invariant-loop decreases-loop
+cast-write-transition : tie.Need-overflow_cast-column invariant-loop decreases-loop
 cast-write-transition c =
     let s = start c.before.before.before.before.before in
-    let low = s.pre.0.component_below in
-    let few = s.pre.0.well_formed.components_high in
+    let low = s.requires.0.component_below in
+    let few = s.requires.0.well_formed.components_high in
     let small : s.args.column.j < 256 = omega arith in
     search rules
 
-cast-write-transition-2 : tie.Need-overflow-cast-write-transition-2 invariant-loop decreases-loop
-cast-write-transition-2 c = let l = c.before.before.take-lowest.ensures.below in search rules
+cast-write-transition-2 : tie.Need-overflow_cast-g invariant-loop decreases-loop
+cast-write-transition-2 c = let l = c.before.before.take_lowest-g.ensures.below in search rules
 
-add-write-transition : tie.Need-overflow-add-write-transition invariant-loop decreases-loop
-add-write-transition c = let i = c.before.transition_at_fact.ensures.inside in search rules
+add-write-transition : tie.Need-overflow_add-at invariant-loop decreases-loop
+add-write-transition c = let i = c.before.transition_at-at.ensures.inside in search rules
 
-shared-slice-read-write-transition : tie.Need-shared-slice-read-write-transition invariant-loop decreases-loop
-shared-slice-read-write-transition c = let i = c.before.before.transition_at_fact.ensures.inside in omega arith
+shared-slice-read-write-transition : tie.Need-bounds-product-at invariant-loop decreases-loop
+shared-slice-read-write-transition c = let i = c.before.before.transition_at-at.ensures.inside in omega arith
 
-sub-write-transition : tie.Need-overflow-sub-write-transition invariant-loop decreases-loop
-sub-write-transition c = to_write_used c.before.before.before.before.before.before.loop.invariant.1
+sub-write-transition : tie.Need-slice_bounds-write_transition-count invariant-loop decreases-loop
+sub-write-transition c = to_write_used c.before.before.before.before.before.before.loop-left.invariant.1
 
-part-write-transition-start : tie.Need-slice-bounds-write-transition-start invariant-loop decreases-loop
-part-write-transition-start c = let u = to_write_used c.before.before.before.before.before.before.loop.invariant.1 in search rules
+part-write-transition-start : tie.Need-slice_bounds-write_transition-start invariant-loop decreases-loop
+part-write-transition-start c = let u = to_write_used c.before.before.before.before.before.before.loop-left.invariant.1 in search rules
 
-part-write-transition-end : tie.Need-slice-bounds-write-transition-end invariant-loop decreases-loop
-part-write-transition-end c = let u = to_write_used c.before.before.before.before.before.before.loop.invariant.1 in search rules
+part-write-transition-end : tie.Need-slice_bounds-write_transition-end invariant-loop decreases-loop
+part-write-transition-end c = let u = to_write_used c.before.before.before.before.before.before.loop-left.invariant.1 in search rules
 
-write-transition-requires : tie.Need-write-transition-requires invariant-loop decreases-loop
+write-transition-requires : tie.Need-write_transition-used-requires invariant-loop decreases-loop
 write-transition-requires c κs =
-    let low = c.before.before.before.before.take-lowest in
+    let low = c.before.before.before.before.take_lowest-g in
     let at = c.before.before.before.before.before.before.before in
     let a = (start at).args in
     let b = a.product.now in
-    to_write_lent at.loop.invariant.1 (row_transition (product_of b) a.column.j a.q low.result) _
+    to_write_lent at.loop-left.invariant.1 (row_transition (product_of b) a.column.j a.q low.result) _
     (next_row b a.column.j a.q (taken_first low.ensures))
 
-add-used : tie.Need-overflow-add-used invariant-loop decreases-loop
+add-used : tie.Need-overflow_add-used invariant-loop decreases-loop
 add-used c =
-    let low = c.before.before.before.before.before.before.before.take-lowest in
+    let low = c.before.before.before.before.before.before.before.take_lowest-g in
     let at = c.before.before.before.before.before.before.before.before.before.before in
     let a = (start at).args in
     let b = a.product.now in
-    let room : at.loop.used + transition_size ≤ length at.loop.out =
-    to_write_room at.loop.invariant.1 (row_transition (product_of b) a.column.j a.q low.result) _
+    let room : at.loop-left.used + transition_size ≤ length at.loop-left.out =
+    to_write_room at.loop-left.invariant.1 (row_transition (product_of b) a.column.j a.q low.result) _
     (next_row b a.column.j a.q (taken_first low.ensures)) in
-    let same = to_write_length at.loop.invariant.1 in
-    let size = c.before.before.write-transition.ensures.0 in
+    let same = to_write_length at.loop-left.invariant.1 in
+    let size = c.before.before.write_transition-used.ensures.0 in
     search rules
 
-loop-less : tie.Need-loop-smaller invariant-loop decreases-loop
-loop-less c = left_less c.before.before.before.before.before.before.before.take-lowest.ensures
+loop-less : tie.Need-loop-left-smaller invariant-loop decreases-loop
+loop-less c = left_less c.before.before.before.before.before.before.before.take_lowest-g.ensures
 
-loop-again : tie.Need-loop-preserved invariant-loop decreases-loop
+loop-again : tie.Need-loop-left-preserved invariant-loop decreases-loop
 loop-again c =
     let wrote = c.before.before in
     let found = wrote.before.before.before.before in
-    let low = found.before.take-lowest in
+    let low = found.before.take_lowest-g in
     let at = found.before.before.before.before in
     let a = (start at).args in
     let b = a.product.now in
     let j = a.column.j in
-    let place = found.transition_at_fact.result in
-    let rest = text b j a.q (members low.new.0) in
-    let row = sym (row_written b j a.q low.result place found.transition_at_fact.ensures) in (
-      within_rest low.ensures a.rows at.loop.invariant.0,
-      to_write_more at.loop.invariant.1 (j ∷ a.q ∷ low.result ∷ get_or b (place + 1) 0 ∷ []) rest
+    let place = found.transition_at-at.result in
+    let rest = text b j a.q (members low.new.left) in
+    let row = sym (row_written b j a.q low.result place found.transition_at-at.ensures) in (
+      within_rest low.ensures a.rows at.loop-left.invariant.0,
+      to_write_more at.loop-left.invariant.1 (j ∷ a.q ∷ low.result ∷ get_or b (place + 1) 0 ∷ []) rest
           (next_row b j a.q (taken_first low.ensures) ∙ ap (λ (l : List ℕ). l ++ rest) row)
-          refl wrote.write-transition.ensures.1 wrote.write-transition.ensures.0,
+          refl wrote.write_transition-used.ensures.1 wrote.write_transition-used.ensures.0,
     )
 
-same_length : tie.Need-same-length invariant-loop decreases-loop
-same_length c = to_write_length c.before.loop.invariant.1
+same_length : tie.Need-shape_of-out invariant-loop decreases-loop
+same_length c = to_write_length c.before.loop-left.invariant.1
 
 returns : tie.Need-returns invariant-loop decreases-loop
 returns c =
-    let l = c.before.loop in
+    let l = c.before.loop-left in
     let a = (start c.before).args in
-    to_write_end l.invariant.1 (ap (text a.product.now a.column.j a.q) (ap members c.loop-test.false ∙ members_zero))
+    to_write_end l.invariant.1 (ap (text a.product.now a.column.j a.q) (ap members c.loop-left-test.false ∙ members_zero))
 
 pub write_leaving_spec : {M : Type 1} → statement M
 write_leaving_spec =

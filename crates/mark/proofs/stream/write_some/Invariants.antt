@@ -1,0 +1,6 @@
+-- The measure is the number of turns that are left.
+-- Assumes nothing.
+use Rattle.mark.proofs.stream.write_some.Given as goal
+
+abbrev pub decreases-loop-turns : goal.decreases-loop-turns
+decreases-loop-turns g l = l.turns
