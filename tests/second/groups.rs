@@ -3,7 +3,7 @@
 
 use crate::sheets::{Draft, Record, Runner};
 
-/// Places of the largest table.
+/// The largest table has 5,312 places: MORE than these.
 const PLACES: usize = 5_248;
 /// A sheet counts only where so many places more would make the same groups: then it does not rest on the exact number.
 const MORE: usize = 64;

@@ -63,6 +63,7 @@ fn write_packed(
 }
 
 // The same, where there are at most 64 actions.
+#[inline(never)]
 fn write_few(
     front: &[u8],
     section: &[u8],
@@ -79,6 +80,7 @@ fn write_few(
 }
 
 // The same, with a place for each action that a sheet may have.
+#[inline(never)]
 fn write_many(
     front: &[u8],
     section: &[u8],

@@ -1,13 +1,9 @@
 -- What reading the standard input to its end and writing the whole of a text may answer. It serves P1.
 -- Assumes nothing.
-use Rattle.std.specs.Prelude.{◌≡◌, List, [], ℕ, ◌≤◌, length, take, Result, Ok, Err}
+use Rattle.std.specs.Prelude.{◌≡◌, List, [], ℕ, ◌≤◌, take, Result, Ok, Err}
 use Rattle.mark.specs.declared.stream.Input.{Input}
 use Rattle.mark.specs.declared.stream.Input.TheVariants.{Whole, Unreadable}
 use Rattle.mark.specs.declared.stream.Output.{Output}
-
--- xs has n bytes in front, and what is taken of them is n bytes
-abbrev pub IsPrefixLen : ℕ → List ℕ → Type 0
-IsPrefixLen n xs = (n ≤ length xs) × (n ≡ length (take n xs))
 
 -- what a call that is handed n bytes may answer: an error, or how many bytes it moved, at most n
 abbrev pub Moved : {E : Type 0} → ℕ → Result ℕ E → Type 0

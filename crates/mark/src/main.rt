@@ -7,15 +7,14 @@
 mod stream;
 
 ghost use Rattle.std.specs.Prelude.{◌≡◌, ◌≤◌, length, take};
+ghost use Rattle.io.specs.Counts.{IsPrefixLen};
 ghost use Rattle.answers.specs.Report.{report, report_room};
-ghost use Rattle.mark.specs.Streams.{IsPrefixLen, bytes_read};
+ghost use Rattle.mark.specs.Streams.{bytes_read};
 
 use oatmist::Answer;
 use std::env::{Env, FillError};
 use std::fmt::InlineText;
-use std::fs::{Files, OpenOptions};
-use std::io;
-use std::io::{Eprint, Print, Write};
+use std::io::{Eprint, Error, Print};
 use stream::{Input, Output};
 
 // Puts what is to be written into the front of the text: the report of the first n bytes of the buffer, which are what was read. Answers
@@ -38,23 +37,13 @@ fn has_argument(rt: &impl Env) -> bool {
     !matches!(rt.arg(1, &mut word), Err(FillError::NotPresent))
 }
 
-// Writes the word on descriptor 3, which is opened anew by its name. It is opened for reading too: opening a pipe for writing alone waits
-// for a reader, and there may be none.
-fn write_told(rt: &impl Files) -> io::Result<()> {
-    let mut told = OpenOptions::new()
-        .read(true)
-        .append(true)
-        .open(rt, "/proc/self/fd/3")?;
-    told.write_all(b"written\n")
-}
-
 // Tells that the whole answer was written, on descriptor 3, to a caller that asked for it by an argument. Only who has written as many
 // bytes as the report of what was read has may tell so.
-fn tell_written<R: Env + Files>(rt: &R, put: usize, input: Input, sheet: &[u8])
+fn tell_written(rt: &impl Env, put: usize, input: Input, sheet: &[u8])
     requires { put ≡ length (report (bytes_read input sheet.now)) }
 {
     if has_argument(rt) {
-        let _ = write_told(rt);
+        io::write_all(3, b"written\n");
     }
 }
 
@@ -67,17 +56,17 @@ fn words_of(told: &str) -> &str {
 }
 
 // Says in one line on standard error what failed, and the reason.
-fn fail(rt: &impl Eprint, what: &str, error: io::Error) {
+fn fail(rt: &impl Eprint, what: &str, error: Error) {
     let told = InlineText::<256>::of(error);
     let reason = words_of(told.as_str());
     let _ = eprintln!(rt; "mark: {what}: {reason}");
 }
 
 // Writes the text, which must be the report of the bytes that reading gave, and tells that it is written.
-fn give_answer<R: Env + Files + Print + Eprint>(rt: &R, input: Input, sheet: &[u8], text: &[u8])
+fn give_answer<R: Env + Print + Eprint>(rt: &R, input: Input, sheet: &[u8], text: &[u8])
     requires { text.now ≡ report (bytes_read input sheet.now) }
 {
-    let output = stream::write_to_end(&mut io::writer(rt), text);
+    let output = stream::write_to_end(&mut std::io::writer(rt), text);
     let put = match output {
         Output::Whole(put) => put,
         Output::Unwritable(error) => {
@@ -89,7 +78,7 @@ fn give_answer<R: Env + Files + Print + Eprint>(rt: &R, input: Input, sheet: &[u
 }
 
 fn main(rt: HostRuntime) {
-    let mut sheet = [0u8; 65536];
+    let mut sheet = io::large_buffer();
     let input = stream::read_to_end(&mut rt.stdin(), &mut sheet);
     let n = match input {
         Input::Whole(n) => n,
@@ -98,7 +87,7 @@ fn main(rt: HostRuntime) {
             return;
         }
     };
-    let mut text = [0u8; 65536];
+    let mut text = io::large_buffer();
     let size = put_report(n, &sheet, &mut text);
     give_answer(&rt, input, &sheet, &text[..size]);
 }

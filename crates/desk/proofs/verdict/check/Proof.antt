@@ -11,7 +11,7 @@ use Rattle.desk.proofs.verdict.check.Tie as tie
 returns : tie.Need-returns-in_default
 returns c =
     let r = c.before in
-    let b = r.before.before.args.sheet.now in
+    let b = c.args.sheet.now in
     let a = r.read_trailer-told.result in
     let stop = trailer_stopped b a c.in_default.not-Accepted r.read_trailer-told.ensures in
     refused_told b a (trailer_verdict b accepted) stop (trailer_verdict_fact b a c.in_default.not-Accepted stop)

@@ -1,4 +1,4 @@
--- Each read is handed the whole room. The measure is the number of turns that are left.
+-- What holds of `stream::read_some`, which serves P1: each read is handed the whole room. The measure is the number of turns that are left.
 -- Assumes nothing.
 use Rattle.std.proofs.Common.{length, ◌≡◌}
 use Rattle.mark.proofs.stream.read_some.Given as goal

@@ -1,4 +1,4 @@
--- No more bytes came than there is room for. The measure is the room that is left.
+-- What holds of `stream::read_to_end`, which serves P1: no more bytes came than there is room for. The measure is the room that is left.
 -- Assumes nothing.
 use Rattle.std.proofs.Common.{length, ◌-◌, ◌≡◌, ◌≤◌}
 use Rattle.mark.proofs.stream.read_to_end.Given as goal

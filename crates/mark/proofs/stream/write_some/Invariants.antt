@@ -1,4 +1,4 @@
--- The measure is the number of turns that are left.
+-- What falls in `stream::write_some`, which serves P1: the number of turns that are left.
 -- Assumes nothing.
 use Rattle.mark.proofs.stream.write_some.Given as goal
 

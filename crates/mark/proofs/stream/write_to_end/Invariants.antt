@@ -1,4 +1,4 @@
--- The measure is the number of bytes that are still to be written.
+-- What falls in `stream::write_to_end`, which serves P1: the number of bytes that are still to be written.
 -- Assumes nothing.
 use Rattle.std.proofs.Common.{length, ◌-◌, ◌≤◌}
 use Rattle.mark.proofs.stream.write_to_end.Given as goal

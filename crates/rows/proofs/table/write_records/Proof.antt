@@ -135,9 +135,9 @@ add-used c =
     let made = wrote.before.before.before.before in
     let turn = made.before.before.before in
     let at = turn.before in
-    let x = made.with-initial.result in
+    let initial = made.with-initial.result in
     let room : at.loop-j.used + record_size ≤ length at.loop-j.out =
-    to_write_room at.loop-j.invariant.1 (written turn x) (later turn) (next_record turn x made.with-initial.ensures) in
+    to_write_room at.loop-j.invariant.1 (written turn initial) (later turn) (next_record turn initial made.with-initial.ensures) in
     let same = to_write_length at.loop-j.invariant.1 in
     let size = wrote.write_record-used.ensures.0 in
     let good = (start at).well_formed.1.1.1.1.0 in
@@ -151,10 +151,10 @@ loop-again c =
     let wrote = c.before.before in
     let made = wrote.before.before.before.before in
     let turn = made.before.before.before in
-    let x = made.with-initial.result in
+    let set = made.with-initial.result in
     let low = turn.loop-j-test.true in (
       omega arith,
-      to_write_more turn.before.loop-j.invariant.1 (written turn x) (later turn) (next_record turn x made.with-initial.ensures) refl
+      to_write_more turn.before.loop-j.invariant.1 (written turn set) (later turn) (next_record turn set made.with-initial.ensures) refl
           wrote.write_record-used.ensures.1 wrote.write_record-used.ensures.0,
     )
 
