@@ -77,7 +77,7 @@ two_one b c = one_due {A = ℕ} (TwoSheetRefusal b c) (of_two b c 0) (two_refuse
 module _ {A : Type 0} (f : A → List ℕ) (P : Refusal) (o : Outcome A) (due : RefusesBy P o) (r : Answer) (told : outcome_of r ≡ values f o) where
   refused_as_due : RefusedExactly P r
   refused_as_due k i s =
-      (λ e. (due k i s).0 (refused_only f o k i s (sym (ap outcome_of e) ∙ told)), λ p. refused_told f r o told k i s ((due k i s).1 p))
+      (λ e. (due k i s).0 (refused_only f o k i s (sym e ∙ told)), λ p. refused_told f r o told k i s ((due k i s).1 p))
 
 pub values_same : (o : Outcome (List ℕ)) → values (λ x. x) o ≡ o
 values_same (given x) = refl

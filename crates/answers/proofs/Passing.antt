@@ -7,9 +7,10 @@ use Prim.Native.Nat.{ℕ}
 use native.Mathlib.Omega.{arith}
 use Rattle.sheet.specs.Verdict.{Verdict, accepted, refused}
 use Rattle.answers.specs.declared.Sizes.{Sizes}
+use Rattle.answers.specs.declared.Refusal.{Refusal}
 use Rattle.answers.specs.declared.Answer.{Answer}
 use Rattle.answers.specs.declared.Answer.TheVariants.{Accepted, Given, Refused}
-use Rattle.answers.specs.Outcomes.{Outcome, given, refused as refused_by, values, outcome_of, after}
+use Rattle.answers.specs.Outcomes.{Outcome, given, refused as refused_by, values, number_of, outcome_of, after}
 
 -- what is known where `let Answer::Accepted(..) = a else` goes on with the else
 abbrev pub NotAccepted : Answer → Type 0
@@ -17,21 +18,25 @@ NotAccepted a = (z : Sizes) → ¬ (a ≡ Accepted z)
 
 -- what is known where `let Answer::Refused { .. } = a else` goes on with the else
 abbrev pub NotRefused : Answer → Type 0
-NotRefused a = (k i s : ℕ) → ¬ (a ≡ Refused k i s)
+NotRefused a = (r : Refusal) (i s : ℕ) → ¬ (a ≡ Refused r i s)
 
 -- the refusal that an answer is
 pub record IsRefusal (a : Answer) (v : Verdict) : Type 0 where
-  pub number : ℕ
+  pub refusal : Refusal
   pub index : ℕ
-  pub verdict_told : v ≡ refused number index
-  pub answer_told : a ≡ Refused number index 0
+  pub verdict_told : v ≡ refused (number_of refusal) index
+  pub answer_told : a ≡ Refused refusal index 0
 
 pub stopped_by : (a : Answer) → NotAccepted a → (v : Verdict) (n m t s : ℕ) → outcome_of a ≡ after v (given (n ∷ m ∷ t ∷ s ∷ [])) → IsRefusal a v
 stopped_by (Accepted z) h v n m t s e = absurd (h z refl)
 stopped_by (Given y) h (refused k i) n m t s e = let z : ◌≡◌ {A = ℕ} 0 1 = cc in absurd (omega arith)
 stopped_by (Given y) h accepted n m t s e = let z : ◌≡◌ {A = ℕ} 0 1 = cc in absurd (omega arith)
-stopped_by (Refused k i w) h (refused l j) n m t s e = record { number = l; index = j; verdict_told = refl; answer_told = cc }
-stopped_by (Refused k i w) h accepted n m t s e = let z : ◌≡◌ {A = ℕ} 0 1 = cc in absurd (omega arith)
+stopped_by (Refused r i w) h (refused l j) n m t s e =
+    let number : number_of r ≡ l = cc in
+    let index : i ≡ j = cc in
+    let sheet : w ≡ 0 = cc in
+    record { refusal = r; index = i; verdict_told = cc; answer_told = cc }
+stopped_by (Refused r i w) h accepted n m t s e = let z : ◌≡◌ {A = ℕ} 0 1 = cc in absurd (omega arith)
 
 -- passed on as it is, whatever the call would give
 pub stopped_told : {A : Type 0} {a : Answer} {v : Verdict} → IsRefusal a v → (f : A → List ℕ) (x : Outcome A) → outcome_of a ≡ values f (after v x)

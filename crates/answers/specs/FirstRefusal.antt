@@ -5,7 +5,7 @@ use Rattle.std.specs.Prelude.{◌≡◌, ◌↔◌, ◌⊎◌, List, ℕ, ◌<�
 use Rattle.sheet.specs.Verdict.{Verdict, IsVerdict, Accepted}
 use Rattle.answers.specs.declared.Sizes.{Sizes}
 use Rattle.answers.specs.declared.Answer.{Answer}
-use Rattle.answers.specs.Outcomes.{Outcome, refused}
+use Rattle.answers.specs.Outcomes.{Outcome, refused, TellsRefusal}
 use Rattle.answers.specs.Restated.{restated}
 use Rattle.answers.specs.Related.{SameTables}
 use Rattle.answers.specs.Report.{report}
@@ -60,7 +60,7 @@ RefusesBy P o = (k i s : ℕ) → (o ≡ refused k i s) ↔ P k i s
 
 -- D1: the answer is a refusal exactly where one is due
 abbrev pub RefusedExactly : Refusal → Answer → Type 0
-RefusedExactly P r = (k i s : ℕ) → (r ≡ Answer.Refused k i s) ↔ P k i s
+RefusedExactly P r = (k i s : ℕ) → TellsRefusal r k i s ↔ P k i s
 
 -- the answer is the refusal that is due, else the sizes of the sheet (D1, F1)
 pub record SizesOr (P : Refusal) (r : Answer) : Type 0 where

@@ -14,12 +14,12 @@ use Rattle.sheet.specs.Layout.{component_count, tables}
 use Rattle.sheet.specs.Verdict.{Verdict, IsVerdict, Accepted}
 use Rattle.sheet.proofs.Verdicts.{verdict_first, verdict_only}
 use Rattle.answers.specs.declared.Answer.{Answer}
-use Rattle.answers.specs.Outcomes.{values, one_value}
+use Rattle.answers.specs.Outcomes.{given, refused, values, one_value, outcome_of, TellsRefusal}
 use Rattle.answers.specs.Restated.{restated}
 use Rattle.answers.specs.Restating.{restating}
 use Rattle.answers.specs.Related.{SameTables}
 use Rattle.answers.specs.FirstRefusal.{Refusal, Numbered, TooShort, AtMostOne, NumberOr}
-use Rattle.answers.proofs.Told.{is_refused, is_given, refused_told}
+use Rattle.answers.proofs.Told.{same_refusal, is_given, refused_told}
 use Rattle.answers.proofs.LentOutput.{refused_short, given_long, refused_kept, given_output}
 use Rattle.answers.proofs.Relations.{same_tables, related_same}
 use Rattle.columns.specs.ColumnRefusals.{ColumnsIn, HasColumns, Executable}
@@ -95,7 +95,7 @@ none_due {b} {d} {room} {k} {i} {s} {cs} {c} acc x h long = go
 -- V3, O9: how a call ends: by the refusal that is due, or by what restating a sheet with the columns gives
 pub data Ended (b d out : List ℕ) (r : Answer) (left : List ℕ) : Type 0 where
   -- O5, O9: refused, by the number that is due
-  refuses : (k i s : ℕ) → ColumnsRefusal b d (length out) k i s → r ≡ Answer.Refused k i s → left ≡ out → Ended b d out r left
+  refuses : (k i s : ℕ) → ColumnsRefusal b d (length out) k i s → TellsRefusal r k i s → left ≡ out → Ended b d out r left
   -- V3: some sheet has the columns, and its restated form fits and is written
   writes : Accepted b → (cs : List (List ℕ)) → ColumnsIn b d cs → (c : List ℕ) → HasColumns b cs c → length (restated c) ≤ length out
       → r ≡ Answer.Given (length (restated c)) → left ≡ over (restated c) out → Ended b d out r left
@@ -106,10 +106,10 @@ numbered n = (refl, refl, refl)
 -- V3, O9: what the call promises says how it ends
 pub ended : {b d out : List ℕ} {r : Answer} {left : List ℕ} → ColumnsAnswer b d out r left → Ended b d out r left
 ended {b} {r = r} (sheet_refused k i v e a) =
-    refuses k i 0 (inl (subst (IsVerdict b) v (verdict_first b), refl)) (is_refused r k i 0 e) a
-ended {r = r} (not_legible acc n e a) = refuses 18 0 0 (inr (acc, inl (n, numbered 18))) (is_refused r 18 0 0 e) a
+    refuses k i 0 (inl (subst (IsVerdict b) v (verdict_first b), refl)) e a
+ended {r = r} (not_legible acc n e a) = refuses 18 0 0 (inr (acc, inl (n, numbered 18))) e a
 ended {r = r} (not_executable acc cs x n e a) =
-    refuses 19 0 0 (inr (acc, inr (cs, x, inl (n, numbered 19)))) (is_refused r 19 0 0 e) a
+    refuses 19 0 0 (inr (acc, inr (cs, x, inl (n, numbered 19)))) e a
 ended {b} {d} {out} {r} {left} (as_restated acc cs x c h e a) = go (dec_lt (length out) (length (restated c)))
   where
     go : Dec (length out < length (restated c)) → Ended b d out r left
@@ -129,7 +129,7 @@ module _ {b d out : List ℕ} {r : Answer} {left : List ℕ} where
   ended_answers (refuses k i s p e a) =
       record {
         refused_exactly = λ l j t. (
-          λ f. let same : Answer.Refused k i s ≡ Answer.Refused l j t = sym e ∙ f in
+          λ f. let same : refused k i s ≡ refused l j t = sym e ∙ f in
               let n : k ≡ l = cc in let m : i ≡ j = cc in let w : s ≡ t = cc in
               subst (λ (z : ℕ). ColumnsRefusal b d (length out) z j t) n
               (subst (λ (z : ℕ). ColumnsRefusal b d (length out) k z t) m (subst (ColumnsRefusal b d (length out) k i) w p)),
@@ -172,15 +172,19 @@ ended_wrote {k = k} (writes acc cs x c h long e a) =
     record { accepted = acc; held = cs; legible = x; sheet = c; has = h; length_told = cc; output = a }
 
 -- O5: a call that was refused has not
-pub ended_kept : {b d out left : List ℕ} {k i s : ℕ} → Ended b d out (Answer.Refused k i s) left → left ≡ out
-ended_kept (refuses n i s p e a) = a
-ended_kept (writes acc cs x c h long e a) = let o : ◌≡◌ {A = ℕ} 0 1 = cc in absurd (omega arith)
+pub ended_kept : {b d out left : List ℕ} {r : Answer} {k i s : ℕ} → Ended b d out r left → TellsRefusal r k i s → left ≡ out
+ended_kept (refuses l j t p e a) f = a
+ended_kept (writes acc cs x c h long e a) f =
+    let told : given (one_value (length (restated c))) ≡ refused _ _ _ = sym (ap outcome_of e) ∙ f in
+    let o : ◌≡◌ {A = ℕ} 0 1 = cc in absurd (omega arith)
 
 -- C1: answer and output are one
 pub ended_fixed : {b d out left kept : List ℕ} {r s : Answer} → Ended b d out r left → Ended b d out s kept → (r ≡ s) × (left ≡ kept)
-ended_fixed {b} {d} {out} (refuses k i s p e a) (refuses l j t q f c) =
+ended_fixed {b} {d} {out} {r = r} {s = other} (refuses k i s p e a) (refuses l j t q f c) =
     let same = columns_one b d (length out) k i s l j t p q in
-    let n = same.0 in let m = same.1 in let w = same.2 in (cc, a ∙ sym c)
+    let n = same.0 in let m = same.1 in let w = same.2 in
+    let told : TellsRefusal other k i s = cc in
+    (same_refusal r other k i s e told, a ∙ sym c)
 ended_fixed (refuses k i s p e a) (writes acc cs x c h long f g) = absurd (none_due acc x h long p)
 ended_fixed (writes acc cs x c h long f g) (refuses l j t q e a) = absurd (none_due acc x h long q)
 ended_fixed (writes acc cs x c h long f g) (writes acc' ds y e k long' m o) =

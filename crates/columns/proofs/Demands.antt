@@ -19,6 +19,7 @@ use Rattle.sheet.specs.Bounds.{most_in_steps}
 use Rattle.sheet.specs.Layout.{component_count, tables, steps}
 use Rattle.sheet.specs.Verdict.{Accepted}
 use Rattle.answers.specs.declared.Answer.{Answer}
+use Rattle.answers.specs.Outcomes.{TellsRefusal}
 use Rattle.answers.specs.Restated.{restated}
 use Rattle.answers.specs.Related.{SameTables}
 use Rattle.answers.specs.SheetExecution.{ProcessIn}
@@ -41,10 +42,10 @@ use Rattle.columns.proofs.Calls.{ended_answers, ended_serves, ended_wrote, ended
 
 module _ (b d out left : List ℕ) (r : Answer) (c : ColumnsAnswer b d out r left) (acc : Accepted b) where
   -- O9: where a refusal is told, and where it is due
-  due : (k i s : ℕ) → (r ≡ Answer.Refused k i s) ↔ ColumnsRefusal b d (length out) k i s
+  due : (k i s : ℕ) → TellsRefusal r k i s ↔ ColumnsRefusal b d (length out) k i s
   due = (ended_answers (ended c)).refused_exactly
 
-  eighteen : (r ≡ Answer.Refused 18 0 0) ↔ (¬ Legible b d)
+  eighteen : TellsRefusal r 18 0 0 ↔ (¬ Legible b d)
   eighteen = (λ e. go ((due 18 0 0).0 e), λ n. (due 18 0 0).1 (inr (acc, inl (n, (refl, refl, refl)))))
     where
       go : ColumnsRefusal b d (length out) 18 0 0 → ¬ Legible b d
@@ -53,7 +54,7 @@ module _ (b d out left : List ℕ) (r : Answer) (c : ColumnsAnswer b d out r lef
       go (inr (acc', inr (cs, x, inl p))) = let n = p.1.0 in absurd (omega arith)
       go (inr (acc', inr (cs, x, inr (w, h, p)))) = let n = p.1.0 in absurd (omega arith)
 
-  nineteen : (cs : List (List ℕ)) → ColumnsIn b d cs → (r ≡ Answer.Refused 19 0 0) ↔ (¬ Executable b cs)
+  nineteen : (cs : List (List ℕ)) → ColumnsIn b d cs → TellsRefusal r 19 0 0 ↔ (¬ Executable b cs)
   nineteen cs x = (λ e. go ((due 19 0 0).0 e), λ n. (due 19 0 0).1 (inr (acc, inr (cs, x, inl (n, (refl, refl, refl))))))
     where
       go : ColumnsRefusal b d (length out) 19 0 0 → ¬ Executable b cs
@@ -96,7 +97,7 @@ columns_demand =
       columns_writes = λ b d out left k c cs x w h. given_writes (ended_wrote (ended c)) x h;
       some_has = λ b d out left k c.
           let w = ended_wrote (ended c) in (w.accepted, (w.held, w.legible, (w.sheet, w.has)));
-      refused_untouched = λ b d out left k i s c. ended_kept (ended c);
+      refused_untouched = λ b d out left r k i s c e. ended_kept (ended c) e;
       steps_play_no_part = λ b c d out left r acc acc' same a. steps_no_part acc acc' same a;
     }
 

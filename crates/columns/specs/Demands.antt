@@ -14,6 +14,7 @@ use Rattle.sheet.specs.Bounds.{longest, most_in_steps}
 use Rattle.sheet.specs.Layout.{component_count, tables, steps}
 use Rattle.sheet.specs.Verdict.{Accepted}
 use Rattle.answers.specs.declared.Answer.{Answer}
+use Rattle.answers.specs.Outcomes.{TellsRefusal}
 use Rattle.answers.specs.FirstRefusal.{AtMostOne, NumberOr}
 use Rattle.answers.specs.Related.{SameTables, RelatedSheets}
 use Rattle.answers.specs.Restated.{restated}
@@ -42,14 +43,14 @@ pub record ColumnsDemand : Type 0 where
       → (r ≡ s) × (left ≡ kept)
   -- R19: told exactly where no accepted sheet with the tables of b has the columns cs
   pub nineteen_exactly : (b d out left : List ℕ) (r : Answer) → ColumnsAnswer b d out r left → Accepted b
-      → (cs : List (List ℕ)) → ColumnsIn b d cs → (r ≡ Answer.Refused 19 0 0) ↔ (¬ Executable b cs)
+      → (cs : List (List ℕ)) → ColumnsIn b d cs → TellsRefusal r 19 0 0 ↔ (¬ Executable b cs)
   -- R19: never because of a limit: where a list of actions has the columns and each is enabled when its turn comes, some accepted sheet has
   -- them
   pub limits_never : (b d : List ℕ) → Accepted b → (cs : List (List ℕ)) → ColumnsIn b d cs → (w : List ℕ) → WordOver (tables b) w
       → ((j : ℕ) → j < component_count b → column (tables b) w j ≡ get_or cs j []) → Runs (tables b) (start (tables b)) w → Executable b cs
   -- R18: told exactly where the bytes are no columns
   pub eighteen_exactly : (b d out left : List ℕ) (r : Answer) → ColumnsAnswer b d out r left → Accepted b
-      → (r ≡ Answer.Refused 18 0 0) ↔ (¬ Legible b d)
+      → TellsRefusal r 18 0 0 ↔ (¬ Legible b d)
   -- R13: an output of exactly the length of the restated form serves, of whichever sheet has the columns; 16,650 bytes always do
   pub columns_serves : (b d out left : List ℕ) (r : Answer) → ColumnsAnswer b d out r left → Accepted b
       → (cs : List (List ℕ)) → ColumnsIn b d cs → (c : List ℕ) → HasColumns b cs c → length (restated c) ≤ length out
@@ -65,7 +66,7 @@ pub record ColumnsDemand : Type 0 where
   pub some_has : (b d out left : List ℕ) (k : ℕ) → ColumnsAnswer b d out (Answer.Given k) left
       → Accepted b × ((cs : List (List ℕ)) × ColumnsIn b d cs × Executable b cs)
   -- O5: a refused call leaves the output as it came
-  pub refused_untouched : (b d out left : List ℕ) (k i s : ℕ) → ColumnsAnswer b d out (Answer.Refused k i s) left → left ≡ out
+  pub refused_untouched : (b d out left : List ℕ) (r : Answer) (k i s : ℕ) → ColumnsAnswer b d out r left → TellsRefusal r k i s → left ≡ out
   -- V4: the steps of the sheet play no part
   pub steps_play_no_part : (b c d out left : List ℕ) (r : Answer) → Accepted b → Accepted c → SameTables b c
       → ColumnsAnswer b d out r left → ColumnsAnswer c d out r left

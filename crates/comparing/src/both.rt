@@ -1,42 +1,35 @@
 // O6: the check of two sheets given together: the refusals of the first, then those of the second, then 14.
-ghost use Rattle.std.specs.Prelude.{◌≡◌};
-ghost use Rattle.sheet.specs.Verdict.{verdict};
-ghost use Rattle.answers.specs.Outcomes.{given, outcome_of, on_sheet, sizes_of};
-ghost use Rattle.answers.specs.TwoSheets.{of_two};
+ghost use Rattle.comparing.specs.Both.{ToldOfSecond, SecondJudged};
 
 use crate::tables;
-use answers::Answer;
-use desk::verdict;
+use answers::{Answer, Refusal};
+use desk::accepted::Accepted;
+use desk::verdict::{self, Room};
 
-// The check of the second sheet: its refusal tells sheet 1.
-fn check_second(second: &[u8]) -> Answer
-    ensures { outcome_of result ≡ on_sheet 1 (verdict second.now) (given (sizes_of second.now)) }
+// The answer on the second sheet: its refusal tells sheet 1.
+fn told_of_second(answer: Answer) -> Answer
+    ensures { ToldOfSecond answer result }
 {
-    let answer = verdict::check(second);
-    let Answer::Refused { number, index, .. } = answer else {
+    let Answer::Refused { refusal, index, .. } = answer else {
         return answer;
     };
     Answer::Refused {
-        number,
+        refusal,
         index,
         sheet: 1,
     }
 }
 
-// The sizes of two accepted sheets over the same tables, or the refusal of the pair.
-pub fn check_both(first: &[u8], second: &[u8]) -> Answer
-    ensures { outcome_of result ≡ of_two first.now second.now (sizes_of first.now) }
+// The sizes of a second sheet that is accepted and over the same tables as the first, or the refusal of the pair; and what judging it leaves.
+pub fn judge_second(first: &Accepted, second: &[u8], room: &mut Room) -> Answer
+    ensures { SecondJudged first.now.sheet.now second.now result room.new }
 {
-    let one = verdict::check(first);
-    let Answer::Accepted(sizes) = one else {
-        return one;
+    let answer = told_of_second(verdict::judge(second, room));
+    let Answer::Accepted(sizes) = answer else {
+        return answer;
     };
-    let two = check_second(second);
-    let Answer::Accepted(sizes2) = two else {
-        return two;
-    };
-    if tables::differ(first, second, sizes, sizes2) {
-        return answers::refuse(14);
+    if tables::differ(first, &Accepted::of(second, sizes, room)) {
+        return answers::refuse(Refusal::OtherTables);
     }
     Answer::Accepted(sizes)
 }

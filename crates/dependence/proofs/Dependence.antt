@@ -24,7 +24,8 @@ use Rattle.systems.specs.Tables.{Tables, InOrder}
 use Rattle.systems.specs.Independence.{dependent}
 use Rattle.systems.specs.Checking.{not_apart}
 use Rattle.systems.proofs.Dependence.{ShareAlphabet, OneEach, dependent_cases, dependent_shares, clash_exact}
-use Rattle.sheet.specs.Sections.{Alphabets}
+use Rattle.sheet.specs.declared.Component.{Component}
+use Rattle.sheet.specs.Sections.{Alphabets, alphabet_at}
 use Rattle.dependence.specs.participants.Participants.{participates, Participants, OfSixteen}
 use Rattle.dependence.specs.participants.Levels.{largest}
 use Rattle.dependence.proofs.participants.Entering.{participants_action}
@@ -54,29 +55,29 @@ both_mem x y a = (
       (members_mem (bit_and x y) a).1 (r.0, member_and x y a ∙ (and_true (member x a) (member y a)).1 (r.1, h.1)),
 )
 
-module _ (T : Tables) (n : ℕ) (l : List ℕ) (A : Alphabets T n l) where
+module _ (T : Tables) (l : List Component) (A : Alphabets T l) where
   -- N3, R11: no two actions of a step are dependent exactly when no alphabet has two of them
-  pub clash_alphabets : (x : ℕ) → (not_apart T x ≡ false) ↔ ((j : ℕ) → j < n → length (members (bit_and x (get_or l j 0))) ≤ 1)
+  pub clash_alphabets : (x : ℕ) → (not_apart T x ≡ false) ↔ ((j : ℕ) → j < length l → length (members (bit_and x (alphabet_at l j))) ≤ 1)
   unfolding not_apart
   clash_alphabets x =
       let c = clash_exact T (members x) (members_distinct x) in
       (λ f j h. alike_short (here j) (members_distinct _) (one (c.0 f) j h), λ few. c.1 (each few))
     where
       here : ℕ → List ℕ
-      here j = members (bit_and x (get_or l j 0))
+      here j = members (bit_and x (alphabet_at l j))
 
-      at : (j : ℕ) → j < n → (a : ℕ) → Memᴰ a (here j) ↔ (Memᴰ a (members x) × (member (T.alphabet j) a ≡ true))
-      at j h a = rw (← A.each j h) (both_mem x (get_or l j 0) a)
+      at : (j : ℕ) → j < length l → (a : ℕ) → Memᴰ a (here j) ↔ (Memᴰ a (members x) × (member (T.alphabet j) a ≡ true))
+      at j h a = rw (← A.each j h) (both_mem x (alphabet_at l j) a)
 
-      one : OneEach T (λ a. Memᴰ a (members x)) → (j : ℕ) → j < n → (a b : ℕ) → Memᴰ a (here j) → Memᴰ b (here j) → a ≡ b
+      one : OneEach T (λ a. Memᴰ a (members x)) → (j : ℕ) → j < length l → (a b : ℕ) → Memᴰ a (here j) → Memᴰ b (here j) → a ≡ b
       one o j h a b p q =
           let s = (at j h a).0 p in
           let t = (at j h b).0 q in
           o j (let e = A.count in omega arith) a b s.0 t.0 s.1 t.1
 
-      each : ((j : ℕ) → j < n → length (here j) ≤ 1) → OneEach T (λ a. Memᴰ a (members x))
+      each : ((j : ℕ) → j < length l → length (here j) ≤ 1) → OneEach T (λ a. Memᴰ a (members x))
       each few j h a b p q s t =
-          let k : j < n = let e = A.count in omega arith in
+          let k : j < length l = let e = A.count in omega arith in
           short_same (here j) (few j k) ((at j k a).1 (p, s)) ((at j k b).1 (q, t))
 
 -- ---- by the union of the alphabets that a step meets (001, definition 8)
@@ -86,8 +87,8 @@ abbrev pub where_met : ℕ → ℕ → ℕ
 where_met x y = cond (eqb (bit_and x y) 0) 0 x
 
 -- r is the union of the first k alphabets of the list, each where it has an action of the set y
-abbrev pub UnionMet : List ℕ → ℕ → ℕ → ℕ → Type 0
-UnionMet l k y r = (a : ℕ) → (member r a ≡ true) ↔ ((j : ℕ) × (j < k) × (member (where_met (get_or l j 0) y) a ≡ true))
+abbrev pub UnionMet : List Component → ℕ → ℕ → ℕ → Type 0
+UnionMet l k y r = (a : ℕ) → (member r a ≡ true) ↔ ((j : ℕ) × (j < k) × (member (where_met (alphabet_at l j) y) a ≡ true))
 
 -- an action that two sets share
 abbrev Common : ℕ → ℕ → Type 0
@@ -111,19 +112,19 @@ met_exact x y a = go (eqb (bit_and x y) 0) refl
     go true e = (λ m. absurd (not_both m (member_zero a)), λ m. absurd (none_common e m.1))
     go false e = (λ m. (m, common e), λ m. m.0)
 
-module _ (T : Tables) (order : InOrder T) (n : ℕ) (l : List ℕ) (A : Alphabets T n l) where
+module _ (T : Tables) (order : InOrder T) (l : List Component) (A : Alphabets T l) where
   -- N3: the union has just the actions that depend on some action of the set
-  pub union_depends : (y r : ℕ) → y < 2 ^ 64 → UnionMet l n y r → (a : ℕ) → a < T.actions → member r a ≡ any_of (dependent T a) (members y)
+  pub union_depends : (y r : ℕ) → y < 2 ^ 64 → UnionMet l (length l) y r → (a : ℕ) → a < T.actions → member r a ≡ any_of (dependent T a) (members y)
   union_depends y r fits U a below = iff_bool (member r a) (any_of (dependent T a) (members y)) (there, back)
     where
-      has : (j b : ℕ) → j < n → member (get_or l j 0) b ≡ member (T.alphabet j) b
+      has : (j b : ℕ) → j < length l → member (alphabet_at l j) b ≡ member (T.alphabet j) b
       has j b h = ap (λ (x : ℕ). member x b) (A.each j h)
 
       there : member r a ≡ true → any_of (dependent T a) (members y) ≡ true
       there m =
           let u = (U a).0 m in
           let j = u.0 in
-          let s = (met_exact (get_or l j 0) y a).0 u.2 in
+          let s = (met_exact (alphabet_at l j) y a).0 u.2 in
           let b = s.1.0 in
           let h : j < T.components = let k = u.1 in let e = A.count in omega arith in
           any_of_intro (dependent T a) (members y) {x = b} ((members_mem y b).1 (member_lt 64 y b fits s.1.2, s.1.2))
@@ -134,11 +135,11 @@ module _ (T : Tables) (order : InOrder T) (n : ℕ) (l : List ℕ) (A : Alphabet
           let s = any_of_elim (dependent T a) (members y) e in
           let b = s.0 in
           let t = (dependent_shares T a b (order.action_used a below)).0 s.2 in
-          let h : t.0 < n = let k = t.1 in let e = A.count in omega arith in
+          let h : t.0 < length l = let k = t.1 in let e = A.count in omega arith in
           (U a).1 (
             t.0,
             h,
-            (met_exact (get_or l t.0 0) y a).1
+            (met_exact (alphabet_at l t.0) y a).1
                 (has t.0 a h ∙ t.2, (b, has t.0 b h ∙ t.3, ((members_mem y b).0 s.1).1)),
           )
 

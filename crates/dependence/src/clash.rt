@@ -1,13 +1,16 @@
 // Refusal 11: dependent actions in one step.
-ghost use Rattle.std.specs.Prelude.{◌≡◌, ◌≢◌, ◌≤◌, length};
+ghost use Rattle.std.specs.Prelude.{◌≡◌, ◌≢◌};
 ghost use Rattle.systems.specs.Tables.{Tables};
 ghost use Rattle.systems.specs.Checking.{not_apart};
 ghost use Rattle.sheet.specs.Sections.{Alphabets};
 
-// Whether two actions of the step, which is not empty, lie in one of the n alphabets.
-pub fn clashes(alphabets: &[u64], n: usize, step: u64) -> bool
-    requires { (n ≤ length alphabets.now) × (step ≢ 0) }
-    ensures { (T : Tables) → Alphabets T n alphabets.now → result ≡ not_apart T step }
+use sets::Elements;
+use sheet::Component;
+
+// Whether two actions of the step, which is not empty, lie in one alphabet.
+pub fn clashes(components: &[Component], step: u64) -> bool
+    requires { step ≢ 0 }
+    ensures { (T : Tables) → Alphabets T components.now → result ≡ not_apart T step }
 {
     let mut others = step;
     sets::take_lowest(&mut others);
@@ -15,19 +18,15 @@ pub fn clashes(alphabets: &[u64], n: usize, step: u64) -> bool
         return false;
     }
     let mut found = false;
-    let mut j = 0;
-    'components: while j < n {
-        let mut left = step & alphabets[j];
+    'components: for component in components {
         let mut seen = false;
-        while left != 0 {
-            sets::take_lowest(&mut left);
+        for _ in Elements::of(step & component.alphabet) {
             if seen {
                 found = true;
                 break 'components;
             }
             seen = true;
         }
-        j += 1;
     }
     found
 }

@@ -5,26 +5,26 @@ ghost use Rattle.sheet.specs.Bounds.{most_components, most_actions};
 ghost use Rattle.sheet.specs.Sections.{Alphabets};
 ghost use Rattle.dependence.specs.participants.Participants.{Participants, ComponentEntered};
 
+use sets::Elements;
+use sheet::Component;
+
 // Enters component j for each action of its alphabet.
 pub fn enter(alphabet: u64, j: u32, found: &mut [u64])
     requires { (length found.old ≡ most_actions) × (j < 64) }
     ensures { ComponentEntered alphabet j found.old found.new }
 {
-    let mut left = alphabet;
-    while left != 0 {
-        let a = sets::take_lowest(&mut left) as usize;
+    for a in Elements::of(alphabet) {
+        let a = a as usize;
         found[a] = sets::with(found[a], j);
     }
 }
 
-// The participants of each action, by n alphabets, into an array of zeros.
-pub fn participants_of(alphabets: &[u64], n: usize, found: &mut [u64])
-    requires { (n ≤ most_components) × (n ≤ length alphabets.now) × (found.old ≡ replicate most_actions 0) }
-    ensures { (T : Tables) → Alphabets T n alphabets.now → Participants T found.new }
+// The participants of each action, by the alphabets of the components, into an array of zeros.
+pub fn participants_of(components: &[Component], found: &mut [u64])
+    requires { (length components.now ≤ most_components) × (found.old ≡ replicate most_actions 0) }
+    ensures { (T : Tables) → Alphabets T components.now → Participants T found.new }
 {
-    let mut j = 0;
-    while j < n {
-        enter(alphabets[j], j as u32, found);
-        j += 1;
+    for (j, component) in components.iter().enumerate() {
+        enter(component.alphabet, j as u32, found);
     }
 }

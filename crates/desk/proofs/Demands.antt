@@ -85,8 +85,8 @@ call_demand1 =
       sizes_told_fact = λ b z c. let t = sizes b z c in (t.1, t.2, t.3, t.4);
       restate_serves = restate_given;
       restate_writes = writes;
-      refused_untouched = λ b out left k i s c.
-          c.output_left ∙ output_laws.refused_untouched b out k i s (refused_only one_value (restating b (length out)) k i s c.answer_told);
+      refused_untouched = λ b out left r k i s c e.
+          c.output_left ∙ output_laws.refused_untouched b out k i s (refused_only one_value (restating b (length out)) k i s (sym e ∙ c.answer_told));
     }
 
 -- ---- demand 2 (D2)

@@ -1,3 +1,3 @@
 pub mod Parts
-pub mod Accepted
+pub mod AcceptedFacts
 pub mod Demands

@@ -1,22 +1,22 @@
 -- The parts of a sheet within limits as the machine is handed them: its tables by the sizes that were told, its transitions and its steps
 -- (S2 to S5, F6).
 -- Assumes nothing.
-use mathlib.Core.Path.{◌≡◌, refl, sym, ap, ap₂, ◌∙◌, subst}
+use mathlib.Core.Path.{◌≡◌, refl, sym, ap, ap₂, ◌∙◌}
 use mathlib.Core.List.{List, map}
-use Prim.Native.Nat.{ℕ, ◌+◌, ◌-◌, ◌*◌, ◌/◌, ◌<◌, ◌≤◌}
+use Prim.Native.Nat.{ℕ, ◌-◌, ◌*◌, ◌/◌, ◌<◌, ◌≤◌}
 use native.Mathlib.Omega.{arith}
-use lib.ListN.{length, take, drop, get_or, length-take, length-drop}
+use lib.ListN.{length, take, drop, length-take, length-drop}
 use lib.Seq.{length-take-le}
 use Rattle.sets.proofs.Lists.{drop_take}
-use Rattle.systems.specs.Tables.{Transition, Tables}
+use Rattle.systems.specs.Tables.{Tables}
 use Rattle.sheet.specs.Numbers.{parts}
 use Rattle.sheet.specs.Layout.{steps_at, component_count, action_count, transitions_at, front, transition_bytes, transition_of, tables_of, tables}
-use Rattle.sheet.specs.Bounds.{record_size, transition_size, most_components}
-use Rattle.sheet.specs.Sections.{transitions_in, Alphabets, Decoded}
+use Rattle.sheet.specs.declared.Component.{Component}
+use Rattle.sheet.specs.Bounds.{record_size, transition_size}
+use Rattle.sheet.specs.Sections.{transitions_in, Decoded}
 use Rattle.sheet.specs.Limits.{InLimits}
 use Rattle.sheet.proofs.Limits.{limits_order}
 use Rattle.answers.specs.declared.Sizes.{Sizes}
-use Rattle.machine.proofs.SectionParts.{alphabets_part}
 use Rattle.machine.specs.Runs.{SystemOf}
 
 -- the step section has at most 8,192 bytes (R4, L5)
@@ -26,10 +26,6 @@ section_short b s e l =
     let few = k.1 in
     let whole = k.2 in
     rw length-take (omega arith)
-
--- the alphabets among the decoded records, as a part (S3)
-pub decoded_alphabets : {T : Tables} {n : ℕ} {l a : List ℕ} → Decoded T n l → a ≡ take most_components (drop (2 * most_components) l) → Alphabets T n a
-decoded_alphabets {T} {n} {l} D e = alphabets_part (subst (λ (k : ℕ). Decoded T k l) D.count D) (sym D.count) e
 
 -- the tables have the components and the actions of the trailer (S6)
 pub components_of : (b : List ℕ) (n m : ℕ) → (tables_of b n m).components ≡ n
@@ -84,15 +80,15 @@ module _ (b : List ℕ) (z : Sizes) (n_read : z.n ≡ component_count b) (m_read
       ∙ part_transitions b z.n z.m z.t z.s h.0 h.1 h.2
 
   -- where none of R1 to R9 holds, the machine is handed a system (S3, S4)
-  pub system_given : (records : List ℕ) → Decoded (tables_of (take z.s b) z.n z.m) z.n records
-      → SystemOf (tables_of (take z.s b) z.n z.m) z records (take (z.s - z.t) (drop z.t b))
-  system_given records d =
+  pub system_given : (components : List Component) → Decoded (tables_of (take z.s b) z.n z.m) components
+      → SystemOf (tables_of (take z.s b) z.n z.m) z components (take (z.s - z.t) (drop z.t b))
+  system_given components d =
       let same = tables_told b z.n z.m z.s n_read m_read s_read in
       record {
         system =
             record {
               order = rw same (limits_order b l);
-              decoded = subst (λ (k : ℕ). Decoded (tables_of (take z.s b) z.n z.m) k records) (sym (components_of (take z.s b) z.n z.m)) d;
+              decoded = d;
               states_few = rw same (sheet_states_few b l);
               told = ap (λ (T : Tables). T.transitions) same ∙ sheet_transitions_fact;
             };

@@ -14,7 +14,7 @@ use Rattle.sheet.specs.Limits.{InLimits}
 use Rattle.sheet.specs.Verdict.{Accepted}
 use Rattle.answers.specs.declared.Sizes.{Sizes}
 use Rattle.answers.specs.declared.Answer.{Answer}
-use Rattle.answers.specs.Outcomes.{bit}
+use Rattle.answers.specs.Outcomes.{bit, TellsRefusal}
 use Rattle.answers.specs.Ends.{end_set}
 use Rattle.answers.specs.Figure.{IsFigure}
 use Rattle.answers.specs.Stuck.{stuck}
@@ -56,7 +56,7 @@ pub record Demand1 : Type 0 where
   pub restate_writes : (b out left : List ℕ) (k : ℕ) → RestateAnswer b out (Answer.Given k) left
       → (k ≡ length (restated b)) × (left ≡ restated b ++ drop k out)
   -- O5: a refused call leaves the output as it came
-  pub refused_untouched : (b out left : List ℕ) (k i s : ℕ) → RestateAnswer b out (Answer.Refused k i s) left → left ≡ out
+  pub refused_untouched : (b out left : List ℕ) (r : Answer) (k i s : ℕ) → RestateAnswer b out r left → TellsRefusal r k i s → left ≡ out
 
 -- D2: accepted exactly when the steps are a step execution as published, within the limits; the end sets pick out exactly the global states
 -- in which interleaving executions with these actions can end, in whatever order w within the steps.

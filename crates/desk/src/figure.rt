@@ -1,15 +1,14 @@
 // The concurrency figure of a sheet.
 ghost use Rattle.std.specs.Prelude.{◌≡◌, ◌≤◌, length};
 ghost use Rattle.sheet.specs.Bounds.{most_in_steps};
-ghost use Rattle.sheet.specs.Layout.{tables};
-ghost use Rattle.dependence.specs.participants.Participants.{Participants};
 ghost use Rattle.answers.specs.Restated.{restated_steps};
 ghost use Rattle.answers.specs.Figure.{FigureOf, figure};
-ghost use Rattle.desk.specs.AcceptedSheet.{AcceptedSheet};
 ghost use Rattle.desk.specs.Calls.{FigureAnswer};
 
-use crate::{records, restate, verdict};
-use answers::{Answer, Sizes};
+use crate::accepted::Accepted;
+use crate::restatable::Restatable;
+use crate::verdict::{self, Room};
+use answers::Answer;
 
 // A4: ten times the actions, divided by the steps and rounded to the nearest whole number; a half goes to the even one; 0 without steps.
 fn rounded_quotient(actions: u64, steps: u64) -> u64
@@ -29,33 +28,24 @@ fn rounded_quotient(actions: u64, steps: u64) -> u64
 }
 
 // The figure of an accepted sheet that has `count` restated steps.
-pub fn figure_with(sheet: &[u8], sizes: Sizes, count: usize) -> u64
-    requires { AcceptedSheet sheet.now sizes × (count ≡ length (restated_steps sheet.now)) }
-    ensures { result ≡ figure sheet.now }
+pub fn figure_with(accepted: &Accepted, count: usize) -> u64
+    requires { count ≡ length (restated_steps accepted.now.sheet.now) }
+    ensures { result ≡ figure accepted.now.sheet.now }
 {
-    let section = reading::step_section(sheet, sizes.s);
-    rounded_quotient(reading::actions_in(section), count as u64)
-}
-
-// The figure of an accepted sheet.
-fn figure_at(sheet: &[u8], sizes: Sizes, participants: &[u64]) -> u64
-    requires { AcceptedSheet sheet.now sizes × Participants (tables sheet.now) participants.now }
-    ensures { result ≡ figure sheet.now }
-{
-    let count = restate::count_sheet(sheet, sizes, participants);
-    figure_with(sheet, sizes, count)
+    rounded_quotient(accepted.actions(), count as u64)
 }
 
 // The concurrency figure of a sheet.
 pub fn figure_of(sheet: &[u8]) -> Answer
     ensures { FigureAnswer sheet.now result }
 {
-    let mut records = [0u64; 64];
-    let answer = verdict::check_with(sheet, &mut records);
+    let mut room = Room::new();
+    let answer = verdict::judge(sheet, &mut room);
     let Answer::Accepted(sizes) = answer else {
         return answer;
     };
+    let accepted = Accepted::of(sheet, sizes, &room);
     let mut participants = [0u64; 64];
-    records::participants_by(&records, sizes.n, &mut participants);
-    Answer::Given(figure_at(sheet, sizes, &participants))
+    let restatable = Restatable::of(&accepted, &mut participants);
+    Answer::Given(figure_with(&accepted, restatable.count_restated()))
 }

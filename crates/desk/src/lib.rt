@@ -2,9 +2,10 @@
 // definition of specs/.
 #![tactic(auto)]
 
+pub mod accepted;
 pub mod figure;
 pub mod process;
-pub mod records;
+pub mod restatable;
 pub mod restate;
 pub mod stuck;
 pub mod verdict;

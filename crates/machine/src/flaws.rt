@@ -1,48 +1,47 @@
 // 10 and 11: the steps that are refused for themselves, whatever is held before them.
-ghost use Rattle.std.specs.Prelude.{◌≡◌, ◌≤◌, length};
+ghost use Rattle.std.specs.Prelude.{◌≡◌, ◌≤◌, MatchOption};
 ghost use Rattle.systems.specs.Tables.{Tables};
 ghost use Rattle.sheet.specs.Sections.{steps_in, Alphabets};
+ghost use Rattle.answers.specs.Outcomes.{number_of};
 ghost use Rattle.machine.specs.flaws.Flaws.{flaw_of, IsFirstFlaw};
 
+use answers::Refusal;
 use dependence::clash;
+use numbers::Steps;
+use sheet::Component;
 
-// The first flaw of some steps: its number and the index of its step; 0 and the number of the steps where there is none.
+// The first flaw of some steps: its refusal, and the index of its step.
 #[derive(Clone, Copy)]
-pub struct FirstFlaw {
-    pub number: u64,
+pub struct Flaw {
+    pub refusal: Refusal,
     pub index: usize,
 }
 
-// 10 or 11 of a step, the lowest that holds; 0 where neither does.
-fn flaw_of(alphabets: &[u64], n: usize, m: usize, step: u64) -> u64
-    requires { (n ≤ length alphabets.now) × (m ≤ 64) }
-    ensures { (T : Tables) → Alphabets T n alphabets.now → T.actions ≡ m → result ≡ flaw_of T step }
+// 10 or 11 of a step, the lowest that holds. That there are at most 64 actions is a clause here, below and in `stuck`, and no type: the number of
+// actions comes alone, out of the sizes, and each function hands it to one call.
+fn flaw_of(components: &[Component], m: usize, step: u64) -> Option<Refusal>
+    requires { m ≤ 64 }
+    ensures { (T : Tables) → Alphabets T components.now → T.actions ≡ m
+        → MatchOption result (flaw_of T step ≡ 0) (λ r. number_of r ≡ flaw_of T step) }
 {
     if sets::misses(step, m as u64) {
-        return 10;
+        return Some(Refusal::NotActions);
     }
-    if clash::clashes(alphabets, n, step) {
-        return 11;
+    if clash::clashes(components, step) {
+        return Some(Refusal::Clash);
     }
-    0
+    None
 }
 
 // The first flaw of the steps of a section.
-pub fn first_flaw(steps: &[u8], alphabets: &[u64], n: usize, m: usize) -> FirstFlaw
-    requires { (n ≤ length alphabets.now) × (m ≤ 64) }
-    ensures { (T : Tables) → Alphabets T n alphabets.now → T.actions ≡ m → IsFirstFlaw T (steps_in steps.now) result }
+pub fn first_flaw(steps: &[u8], components: &[Component], m: usize) -> Option<Flaw>
+    requires { m ≤ 64 }
+    ensures { (T : Tables) → Alphabets T components.now → T.actions ≡ m → IsFirstFlaw T (steps_in steps.now) result }
 {
-    let count = steps.len() / 8;
-    let mut k = 0;
-    while k < count {
-        let number = flaw_of(alphabets, n, m, numbers::step_at(steps, k));
-        if number != 0 {
-            return FirstFlaw { number, index: k };
+    for (index, step) in Steps::of(steps).enumerate() {
+        if let Some(refusal) = flaw_of(components, m, step) {
+            return Some(Flaw { refusal, index });
         }
-        k += 1;
     }
-    FirstFlaw {
-        number: 0,
-        index: count,
-    }
+    None
 }

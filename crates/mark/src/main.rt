@@ -6,8 +6,7 @@
 
 mod stream;
 
-ghost use Rattle.std.specs.Prelude.{◌≡◌, ◌≤◌, length, take};
-ghost use Rattle.io.specs.Counts.{IsPrefixLen};
+ghost use Rattle.std.specs.Prelude.{◌≡◌, ◌≤◌, length};
 ghost use Rattle.answers.specs.Report.{report, report_room};
 ghost use Rattle.mark.specs.Streams.{bytes_read};
 
@@ -15,20 +14,17 @@ use oatmist::Answer;
 use std::env::{Env, FillError};
 use std::fmt::InlineText;
 use std::io::{Eprint, Error, Print};
-use stream::{Input, Output};
 
-// Puts what is to be written into the front of the text: the report of the first n bytes of the buffer, which are what was read. Answers
-// how many bytes that is.
-fn put_report(n: usize, sheet: &[u8], text: &mut [u8]) -> usize
-    requires { (n ≤ length sheet.now) × (report_room ≤ length text.old) }
-    ensures prefix_len { IsPrefixLen result text.new }
-    ensures text_after { take result text.new ≡ report (take n sheet.now) }
+// Puts what is to be written into the front of the room, and gives back that part of it: the report of the bytes that were read.
+fn put_report<'a>(read: &[u8], room: &'a mut [u8]) -> &'a [u8]
+    requires { report_room ≤ length room.old }
+    ensures { result.now ≡ report read.now }
 {
-    let answer = oatmist::report(&sheet[..n], text);
+    let answer = oatmist::report(read, room);
     let Answer::Given(size) = answer else {
-        return 0;
+        return &[];
     };
-    size as usize
+    &room[..size as usize]
 }
 
 // Whether the program was called with an argument.
@@ -39,7 +35,7 @@ fn has_argument(rt: &impl Env) -> bool {
 
 // Tells that the whole answer was written, on descriptor 3, to a caller that asked for it by an argument. Only who has written as many
 // bytes as the report of what was read has may tell so.
-fn tell_written(rt: &impl Env, put: usize, input: Input, sheet: &[u8])
+fn tell_written(rt: &impl Env, put: usize, input: Result<usize, Error>, sheet: &[u8])
     requires { put ≡ length (report (bytes_read input sheet.now)) }
 {
     if has_argument(rt) {
@@ -49,10 +45,8 @@ fn tell_written(rt: &impl Env, put: usize, input: Input, sheet: &[u8])
 
 // The reason of an error in the system's words, without its number, which follows in brackets.
 fn words_of(told: &str) -> &str {
-    match told.split_once(" (os error ") {
-        Some((words, _)) => words,
-        None => told,
-    }
+    told.split_once(" (os error ")
+        .map_or(told, |(words, _)| words)
 }
 
 // Says in one line on standard error what failed, and the reason.
@@ -63,31 +57,31 @@ fn fail(rt: &impl Eprint, what: &str, error: Error) {
 }
 
 // Writes the text, which must be the report of the bytes that reading gave, and tells that it is written.
-fn give_answer<R: Env + Print + Eprint>(rt: &R, input: Input, sheet: &[u8], text: &[u8])
+fn give_answer<R: Env + Print + Eprint>(
+    rt: &R,
+    input: Result<usize, Error>,
+    sheet: &[u8],
+    text: &[u8],
+)
     requires { text.now ≡ report (bytes_read input sheet.now) }
 {
-    let output = stream::write_to_end(&mut std::io::writer(rt), text);
-    let put = match output {
-        Output::Whole(put) => put,
-        Output::Unwritable(error) => {
-            fail(rt, "standard output", error);
-            return;
-        }
-    };
-    tell_written(rt, put, input, sheet);
+    match stream::write_to_end(&mut std::io::writer(rt), text) {
+        Ok(put) => tell_written(rt, put, input, sheet),
+        Err(error) => fail(rt, "standard output", error),
+    }
 }
 
 fn main(rt: HostRuntime) {
     let mut sheet = io::large_buffer();
     let input = stream::read_to_end(&mut rt.stdin(), &mut sheet);
     let n = match input {
-        Input::Whole(n) => n,
-        Input::Unreadable(error) => {
+        Ok(n) => n,
+        Err(error) => {
             fail(&rt, "standard input", error);
             return;
         }
     };
-    let mut text = io::large_buffer();
-    let size = put_report(n, &sheet, &mut text);
-    give_answer(&rt, input, &sheet, &text[..size]);
+    let mut room = io::large_buffer();
+    let text = put_report(&sheet[..n], &mut room);
+    give_answer(&rt, input, &sheet, text);
 }

@@ -1,3 +1,4 @@
 mod RunWords
 mod LinedColumns
 mod MergedColumns
+mod Slices

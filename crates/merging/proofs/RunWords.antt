@@ -1,67 +1,36 @@
 -- V3, R19: a word of actions over the tables of an accepted sheet, each a step of its own: where the run has no fault, the sheet with these
--- steps is accepted, and its parts are at hand to be restated.
+-- steps is accepted, and restating it is what restating these steps is.
 -- Assumes nothing.
 use mathlib.Core.Path.{◌≡◌, refl, sym, ap, ◌∙◌, subst}
-use mathlib.Core.List.{List, [], ◌∷◌, Memᴰ}
+use mathlib.Core.List.{List, Memᴰ}
 use mathlib.Core.Option.{Option, none, some}
-use Prim.Native.Nat.{ℕ, ◌-◌, ◌^◌, ◌<◌, ◌≤◌}
+use Prim.Native.Nat.{ℕ, ◌^◌, ◌<◌, ◌≤◌}
 use native.Mathlib.Omega.{arith}
-use lib.ListN.{length, take, drop, length-map}
+use lib.ListN.{length, length-map}
 use Rattle.systems.specs.Tables.{Tables}
 use Rattle.systems.specs.Running.{start}
 use Rattle.systems.specs.Checking.{Fault, first_fault, flat}
 use Rattle.sheet.specs.Bounds.{most_steps, most_in_steps}
-use Rattle.sheet.specs.Layout.{component_count, action_count, transitions_at, steps_at, front, tables}
-use Rattle.sheet.specs.Sections.{steps_in, Decoded}
+use Rattle.sheet.specs.Layout.{front, component_count, action_count, tables}
+use Rattle.sheet.specs.Sections.{steps_in}
+use Rattle.sheet.specs.Writing.{sheet_of}
 use Rattle.sheet.specs.Verdict.{accepted, Accepted, of_fault}
 use Rattle.sheet.specs.Limits.{InLimits}
-use Rattle.dependence.specs.participants.Participants.{Participants}
 use Rattle.answers.specs.declared.Sizes.{Sizes}
 use Rattle.answers.specs.declared.Answer.{Answer}
 use Rattle.answers.specs.declared.Answer.TheVariants.{Accepted as AcceptedAnswer}
-use Rattle.answers.specs.Outcomes.{given, outcome_of, read_outcome}
-use Rattle.answers.specs.Restated.{with_steps}
-use Rattle.answers.specs.Related.{SameTables}
+use Rattle.answers.specs.Outcomes.{outcome_of}
+use Rattle.answers.specs.Restated.{normal, with_steps, restated}
 use Rattle.answers.proofs.Passing.{NotAccepted, stopped_by, told_accepted}
-use Rattle.answers.proofs.Restated.{accepted_limits, accepted_order, with_steps_reads, with_steps_tables, with_steps_same, with_steps_accepted}
+use Rattle.answers.proofs.Restated.{accepted_limits, accepted_order, restated_normal, with_steps_reads, with_steps_tables, with_steps_accepted}
 use Rattle.columns.specs.Merging.{single}
 use Rattle.columns.proofs.Merged.{word_fits, flat_singles, singles_small}
-use Rattle.machine.specs.Runs.{SystemOf, RunFromStart}
-use Rattle.desk.specs.AcceptedSheet.{AcceptedSheet, SheetGiven}
-use Rattle.desk.proofs.Parts.{tables_told, system_given}
-use Rattle.desk.proofs.Accepted.{accepted_sheet}
+use Rattle.machine.specs.Runs.{RunFromStart}
+use Rattle.desk.specs.AcceptedSheet.{SectionRuns}
+use Rattle.desk.specs.Calls.{RestateAnswer}
+use Rattle.desk.specs.Left.{RestatedInto}
+use Rattle.desk.proofs.restatable.RestateAnswers.{restate_with}
 use Rattle.merging.specs.Words.{WordGiven}
-
--- S6, N4: two accepted sheets over the same tables have the same sizes
-same_sizes : (b c : List ℕ) (z : Sizes) → AcceptedSheet b z → SameTables b c → Accepted c → AcceptedSheet c z
-same_sizes b c z k s acc = accepted_sheet c z (ap given told ∙ ap (read_outcome c) (sym acc))
-  where
-    begins : z.t ≡ transitions_at c
-    begins =
-        let one = (accepted_limits b k.sheet_accepted).transitions_next in
-        let other = (accepted_limits c acc).transitions_next in
-        let n = s.same_components in
-        let t = k.sizes_read.t_read in
-        omega arith
-
-    told : (z.n ∷ z.m ∷ z.t ∷ z.s ∷ []) ≡ (component_count c ∷ action_count c ∷ transitions_at c ∷ steps_at c ∷ [])
-    told =
-        let r = k.sizes_read in
-        let n : z.n ≡ component_count c = r.n_read ∙ s.same_components in
-        let m : z.m ≡ action_count c = r.m_read ∙ s.same_actions in
-        let e : z.s ≡ steps_at c = r.s_read ∙ s.same_steps_at in
-        cc begins
-
--- S3, S4: what the machine is handed: the decoded records and the transitions of the sheet
-pub sheet_system : {b : List ℕ} {z : Sizes} {records : List ℕ} → AcceptedSheet b z → Decoded (tables b) z.n records
-    → SystemOf (tables b) z records (take (z.s - z.t) (drop z.t b))
-sheet_system {b} {z} {records} k d =
-    let r = k.sizes_read in
-    let same = tables_told b z.n z.m z.s r.n_read r.m_read r.s_read in
-    let given =
-    system_given b z r.n_read r.m_read r.t_read r.s_read (accepted_limits b k.sheet_accepted) records
-    (subst (λ (T : Tables). Decoded T z.n records) (sym same) d) in
-    subst (λ (T : Tables). SystemOf T z records (take (z.s - z.t) (drop z.t b))) same given
 
 -- a verdict by faults accepts only where there is none (O3)
 no_fault : (f : Option Fault) → of_fault f ≡ accepted → f ≡ none
@@ -90,40 +59,47 @@ module _ {T : Tables} {z : Sizes} {xs : List ℕ} {r : Answer} {held : List ℕ}
 
 -- ---- the sheet with the word as its steps (V3, N9)
 
-module _ {b : List ℕ} {z : Sizes} {records section : List ℕ} (g : WordGiven b z records section) where
+module _ {b section : List ℕ} (acc : Accepted b) (g : WordGiven b section) where
   limits : InLimits b
-  limits = accepted_limits b g.sheet.sheet_accepted
+  limits = accepted_limits b acc
 
   fits : (a : ℕ) → Memᴰ a g.word → a < 64
-  fits = word_fits (tables b) (accepted_order b g.sheet.sheet_accepted) g.word g.word_over
+  fits = word_fits (tables b) (accepted_order b acc) g.word g.word_over
 
   small : (x : ℕ) → Memᴰ x (steps_in section) → x < 2 ^ 64
   small x m = singles_small g.word fits x (subst (λ (l : List ℕ). Memᴰ x l) g.section_told m)
 
-  flat_told : flat (steps_in section) ≡ g.word
-  flat_told = ap flat g.section_told ∙ flat_singles g.word fits
+  -- L6: its actions are few enough together
+  together : length (flat (steps_in section)) ≤ most_in_steps
+  together = let e = ap length (ap flat g.section_told ∙ flat_singles g.word fits) in let f = g.word_few in omega arith
 
-  -- R10 to R12: accepted where its steps have no fault
-  with_accepted : first_fault (tables b) (start (tables b)) 0 (steps_in section) ≡ none → Accepted (with_steps b (steps_in section))
-  with_accepted = with_steps_accepted b limits (steps_in section) small few together
-    where
-      few : length (steps_in section) ≤ most_steps
-      few = let e = ap length g.section_told ∙ length-map g.word single in let f = g.word_few in omega arith
+  module _ (fine : first_fault (tables b) (start (tables b)) 0 (steps_in section) ≡ none) where
+    -- V3: what restating these steps asks
+    pub word_runs : SectionRuns b section
+    word_runs = record { fine = fine; few = together; short = g.section_short }
 
-      together : length (flat (steps_in section)) ≤ most_in_steps
-      together = let e = ap length flat_told in let f = g.word_few in omega arith
+    -- R10 to R12: accepted where its steps have no fault
+    with_accepted : Accepted (with_steps b (steps_in section))
+    with_accepted = with_steps_accepted b limits (steps_in section) small few together fine
+      where
+        few : length (steps_in section) ≤ most_steps
+        few = let e = ap length g.section_told ∙ length-map g.word single in let f = g.word_few in omega arith
 
-  -- V3: its parts: those of b, and the section
-  pub word_parts : first_fault (tables b) (start (tables b)) 0 (steps_in section) ≡ none → {o : List ℕ}
-      → Participants (tables b) o → SheetGiven (with_steps b (steps_in section)) (take z.s b) section z o
-  unfolding front
-  word_parts fine p =
-      let reads = with_steps_reads b limits (steps_in section) small in
-      record {
-        sheet =
-            same_sizes b (with_steps b (steps_in section)) z g.sheet (with_steps_same b limits (steps_in section) small) (with_accepted fine);
-        front_told = ap (λ (k : ℕ). take k b) g.sheet.sizes_read.s_read ∙ sym reads.front_before;
-        steps_told = sym reads.same_steps;
-        section_short = g.section_short;
-        participants_told = rw (with_steps_tables b limits (steps_in section) small) p;
-      }
+    -- N8: the sheet with the steps of the normal form is the restated one of the sheet with these steps
+    restated_told : with_steps b (normal (tables b) (steps_in section)) ≡ restated (with_steps b (steps_in section))
+    unfolding restated
+    restated_told =
+        let reads = with_steps_reads b limits (steps_in section) small in
+        let c = with_steps b (steps_in section) in
+        let ys = normal (tables b) (steps_in section) in
+        let packed = restated_normal c ∙ ap (normal (tables c)) reads.same_steps
+        ∙ ap (λ (T : Tables). normal T (steps_in section)) (with_steps_tables b limits (steps_in section) small) in
+        sym (ap (with_steps c) packed
+        ∙ ap (λ (f : List ℕ). sheet_of f (component_count c) (action_count c) ys) reads.front_before
+        ∙ ap (λ (n : ℕ). sheet_of (front b) n (action_count c) ys) reads.component_count_fact
+        ∙ ap (λ (m : ℕ). sheet_of (front b) (component_count b) m ys) reads.action_count_fact)
+
+    -- V3: so restating it is what was answered
+    pub word_restated : {out : List ℕ} {r : Answer} {after : List ℕ}
+        → RestatedInto (with_steps b (normal (tables b) (steps_in section))) out r after → RestateAnswer (with_steps b (steps_in section)) out r after
+    word_restated into = restate_with with_accepted restated_told into

@@ -1,3 +1,2 @@
 mod Counts
-mod Ends
 mod Reading

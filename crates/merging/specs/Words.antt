@@ -7,19 +7,15 @@ use Rattle.systems.specs.Running.{start}
 use Rattle.systems.specs.Checking.{first_fault}
 use Rattle.sheet.specs.Bounds.{step_size, most_steps, most_in_steps}
 use Rattle.sheet.specs.Layout.{tables}
-use Rattle.sheet.specs.Sections.{steps_in, Decoded}
-use Rattle.answers.specs.declared.Sizes.{Sizes}
+use Rattle.sheet.specs.Sections.{steps_in}
 use Rattle.answers.specs.declared.Answer.{Answer}
 use Rattle.answers.specs.Outcomes.{refused, outcome_of}
 use Rattle.answers.specs.Restated.{with_steps}
-use Rattle.desk.specs.AcceptedSheet.{AcceptedSheet}
 use Rattle.desk.specs.Calls.{RestateAnswer}
 use Rattle.columns.specs.Merging.{single}
 
--- what is known of the sheet, its decoded records (S3) and the section: that has a word over the actions of the sheet, not too long (L5, L6)
-pub record WordGiven (b : List ℕ) (z : Sizes) (records section : List ℕ) : Type 0 where
-  pub sheet : AcceptedSheet b z
-  pub decoded : Decoded (tables b) z.n records
+-- the section has a word over the actions of the sheet b, each a step of its own (S5); it is not too long (L5, L6)
+pub record WordGiven (b section : List ℕ) : Type 0 where
   pub word : List ℕ
   pub word_over : WordOver (tables b) word
   pub word_few : length word ≤ most_in_steps

@@ -3,9 +3,13 @@
 use mathlib.Core.Path.{◌≡◌, refl, sym, ap, ◌∙◌, subst}
 use mathlib.Core.List.Memᴰ
 use mathlib.Core.List.{List, [], ◌∷◌, ◌++◌, append_assoc, append-nil}
-use Prim.Native.Nat.{ℕ, ◌+◌, ◌≤◌}
+use Prim.Native.Nat.{ℕ, ◌+◌, ◌≤◌, ◌<◌}
 use native.Mathlib.Omega.{arith}
 use lib.ListN.{length, get_or, replicate, length-append, get_or-replicate}
+use Rattle.sets.specs.Bits.{members}
+use Rattle.sets.specs.Walk.{Takes}
+use Rattle.sets.proofs.Members.{members_zero}
+use Rattle.sets.proofs.Walks.{taken_first}
 use Rattle.traces.specs.Foata.{put_at, reach, place_all, foata}
 use Rattle.traces.proofs.Reach.{reach_le}
 use Rattle.traces.proofs.Placing.{place_all_append}
@@ -17,12 +21,12 @@ use Rattle.dependence.specs.participants.Participants.{Participants, OfSixteen}
 use Rattle.dependence.proofs.Dependence.{level_reach}
 use Rattle.normal_form.specs.levels.Levels.{LevelTaken, Room}
 use Rattle.normal_form.specs.Words.{LastSteps, PlacesWord}
-use Rattle.normal_form.proofs.levels.Raising.{room_left, lasts}
+use Rattle.normal_form.proofs.levels.Raising.{level_below, room_left, lasts}
 
 -- ---- one action
 
 -- an action that was given its level is placed, if what holds the steps has the action put into the step of that level
-pub place_one : (o : List ℕ) → OfSixteen o → (a : ℕ) (last last' : List ℕ) (level : ℕ) → LevelTaken (get_or o a 0) last last' level
+place_one : (o : List ℕ) → OfSixteen o → (a : ℕ) (last last' : List ℕ) (level : ℕ) → LevelTaken (get_or o a 0) last last' level
     → {Held Held' : List (List ℕ) → Type 0} → ((ss : List (List ℕ)) → level ≤ length ss → Held ss → Held' (put_at a level ss))
     → PlacesWord o (a ∷ []) last last' Held Held'
 place_one o fit a last last' level taken {Held} {Held'} put = record { room = room_left o fit a last last' level taken; shown = placed }
@@ -60,19 +64,16 @@ pub record StillToPlace (most : ℕ) (o w left last₀ last : List ℕ) (Held₀
   pub done : List ℕ
   pub split : w ≡ done ++ left
   pub placed : PlacesWord o done last₀ last Held₀ Held
-  pub last_size : length last ≡ most_components
   pub room : Room most last (length left)
 
 -- before the first action
-pub to_place_all : (most : ℕ) (o w last : List ℕ) (Held : List (List ℕ) → Type 0) → length last ≡ most_components → Room most last (length w)
-    → StillToPlace most o w w last last Held Held
-to_place_all most o w last Held size room =
-    record { done = []; split = refl; placed = places_none o last Held; last_size = size; room = room }
+to_place_all : (most : ℕ) (o w last : List ℕ) (Held : List (List ℕ) → Type 0) → Room most last (length w) → StillToPlace most o w w last last Held Held
+to_place_all most o w last Held room = record { done = []; split = refl; placed = places_none o last Held; room = room }
 
 module _ (most : ℕ) (o w left last₀ last : List ℕ) (Held₀ Held : List (List ℕ) → Type 0)
     (R : StillToPlace most o w left last₀ last Held₀ Held) where
   -- nothing is left
-  pub to_place_none : left ≡ [] → PlacesWord o w last₀ last Held₀ Held
+  to_place_none : left ≡ [] → PlacesWord o w last₀ last Held₀ Held
   to_place_none e =
       subst (λ (v : List ℕ). PlacesWord o v last₀ last Held₀ Held) (sym (R.split ∙ ap (λ (v : List ℕ). R.done ++ v) e ∙ append-nil R.done))
       R.placed
@@ -82,20 +83,46 @@ module _ (most : ℕ) (o w left last₀ last : List ℕ) (Held₀ Held : List (L
     size = ap length e ∙ length-append u v
 
     -- the next part has room
-    pub part_room : Room most last (length u)
+    part_room : Room most last (length u)
     part_room j h = let r = R.room j h in let s = size in omega arith
 
     -- and what is left once it has been placed
-    pub to_place_rest : (last' : List ℕ) (Held' : List (List ℕ) → Type 0) → PlacesWord o u last last' Held Held' → length last' ≡ length last
+    to_place_rest : (last' : List ℕ) (Held' : List (List ℕ) → Type 0) → PlacesWord o u last last' Held Held'
         → StillToPlace most o w v last₀ last' Held₀ Held'
-    to_place_rest last' Held' P same =
+    to_place_rest last' Held' P =
         record {
           done = R.done ++ u;
           split = R.split ∙ ap (λ (x : List ℕ). R.done ++ x) e ∙ sym (append_assoc R.done u v);
           placed = places_both o R.done u R.placed P;
-          last_size = same ∙ R.last_size;
           room = P.room most (length v) (λ j h. let r = R.room j h in let s = size in omega arith);
         }
+
+-- ---- a step, action by action
+
+module _ {most : ℕ} {o w last₀ last : List ℕ} {Held₀ Held : List (List ℕ) → Type 0} {left : ℕ} (later : List ℕ)
+    (R : StillToPlace most o w (members left ++ later) last₀ last Held₀ Held) where
+  -- the next action, which is given its level
+  module _ {a rest : ℕ} (took : Takes left a rest) (fit : OfSixteen o) {last' : List ℕ} {level : ℕ} (taken : LevelTaken (get_or o a 0) last last' level) where
+    split : members left ++ later ≡ (a ∷ []) ++ (members rest ++ later)
+    split = ap (λ (v : List ℕ). v ++ later) (taken_first took)
+
+    -- there may be a step of this level
+    pub next_below : level < most
+    next_below =
+        level_below o fit a last last' level taken most (part_room most o w (members left ++ later) last₀ last Held₀ Held R (a ∷ []) _ split)
+
+    -- and it is placed there
+    pub next_placed : {Held' : List (List ℕ) → Type 0} → ((ss : List (List ℕ)) → level ≤ length ss → Held ss → Held' (put_at a level ss))
+        → StillToPlace most o w (members rest ++ later) last₀ last' Held₀ Held'
+    next_placed {Held'} put =
+        to_place_rest most o w (members left ++ later) last₀ last Held₀ Held R (a ∷ []) (members rest ++ later) split last' Held'
+        (place_one o fit a last last' level taken put)
+
+  -- none of its actions is left
+  pub step_placed : left ≡ 0 → StillToPlace most o w later last₀ last Held₀ Held
+  step_placed z =
+      subst (λ (v : List ℕ). StillToPlace most o w v last₀ last Held₀ Held)
+      (ap (λ (v : List ℕ). v ++ later) (ap members z ∙ members_zero)) R
 
 -- ---- a whole word, from nothing
 
@@ -107,10 +134,12 @@ zeros_told o j h = get_or-replicate most_components j 0 0 h
 pub from_zeros : (most : ℕ) (o w : List ℕ) (Held : List (List ℕ) → Type 0) → length w ≤ most
     → StillToPlace most o w w (replicate most_components 0) (replicate most_components 0) Held Held
 from_zeros most o w Held few =
-    to_place_all most o w (replicate most_components 0) Held refl
+    to_place_all most o w (replicate most_components 0) Held
     (λ j h. let z = get_or-replicate {A = ℕ} most_components j 0 0 h in omega arith)
 
 -- once the word is placed, its normal form is held
-pub foata_held : (o w last : List ℕ) {Held₀ Held : List (List ℕ) → Type 0} → PlacesWord o w (replicate most_components 0) last Held₀ Held → Held₀ []
+pub foata_held : {most : ℕ} {o w left last : List ℕ} {Held₀ Held : List (List ℕ) → Type 0}
+    → StillToPlace most o w left (replicate most_components 0) last Held₀ Held → left ≡ [] → Held₀ []
     → (T : Tables) → InOrder T → Participants T o → WordOver T w → Held (foata (dependent T) w)
-foata_held o w last P none T order O over = (P.shown T order O over [] (zeros_told o) none).1
+foata_held {most} {o} {w} {left} {last} {Held₀} {Held} R e none T order O over =
+    ((to_place_none most o w left (replicate most_components 0) last Held₀ Held R e).shown T order O over [] (zeros_told o) none).1

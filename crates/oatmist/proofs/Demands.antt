@@ -11,7 +11,7 @@ use Rattle.traces.specs.Offences.{offending}
 use Rattle.sheet.specs.Layout.{component_count, action_count, transitions_at, steps_at}
 use Rattle.sheet.specs.Verdict.{Verdict, verdict}
 use Rattle.answers.specs.declared.Answer.{Answer}
-use Rattle.answers.specs.Outcomes.{Outcome, given, refused, values, one_value, bit, outcome_of, after, sizes_of, read_outcome}
+use Rattle.answers.specs.Outcomes.{Outcome, given, refused, values, one_value, bit, number_of, outcome_of, after, sizes_of, read_outcome}
 use Rattle.answers.specs.Ends.{end_array, ends_outcome}
 use Rattle.answers.specs.ProcessCheck.{process_check}
 use Rattle.answers.specs.Figure.{figure_outcome}
@@ -24,7 +24,6 @@ use Rattle.answers.specs.FirstRefusal.{Refusal, SheetRefusal, RestateRefusal, Re
 use Rattle.answers.proofs.RefusalsDue.{sheet_refuses}
 use Rattle.answers.proofs.FirstRefusal.{ends_refuse, process_refuses, figure_refuses, stuck_refuses}
 use Rattle.answers.proofs.FirstRefusal.{restate_refuses, report_refuses, work_refuses, winner_refuses, values_same}
-use Rattle.answers.proofs.Told.{is_refused}
 use Rattle.answers.proofs.Laws.{output_laws}
 use Rattle.answers.proofs.OutcomeLaws.{output_kept}
 use Rattle.report.specs.Calls.{ReportAnswer}
@@ -185,9 +184,7 @@ module _ (b d out left old new : List ℕ) (r : ℕ) where
       (fits_columns b d out c.told left c.call) (number c.told c.call) r old new c.answer_told
     where
       due : RefusesBy (ColumnsRefusal b d (length out)) (outcome_of c.told)
-      due k i s =
-          let told = (columns_demand.columns_answers b d out left c.told c.call).refused_exactly k i s in
-          (λ e. told.0 (is_refused c.told k i s e), λ p. ap outcome_of (told.1 p))
+      due = (columns_demand.columns_answers b d out left c.told c.call).refused_exactly
 
       number : (a : Answer) → ColumnsAnswer b d out a left → (xs : List ℕ) → outcome_of a ≡ given xs
           → Number (λ x. ColumnsAnswer b d out x left) xs
@@ -202,7 +199,7 @@ module _ (b d out left old new : List ℕ) (r : ℕ) where
       go : (a : Answer) → ColumnsAnswer b d out a left → CAnswer (outcome_of a) r old new → ¬ (r ≡ 0) → left ≡ out
       go (Answer.Accepted z) h t n = absurd (n t.0)
       go (Answer.Given x) h t n = absurd (n t.0)
-      go (Answer.Refused k i s) h t n = columns_demand.refused_untouched b d out left k i s h
+      go (Answer.Refused k i s) h t n = columns_demand.refused_untouched b d out left (Answer.Refused k i s) (number_of k) i s h refl
 
 -- O10: the number of a version grows with its parts
 grows : (a b c d e f : ℕ) → b < 100 → c < 100 → (a < d) ⊎ ((a ≡ d) × ((b < e) ⊎ ((b ≡ e) × (c < f)))) → version_number a b c < version_number d e f

@@ -33,7 +33,7 @@ use Rattle.products.specs.ProductBytes.{product_of}
 use Rattle.products.specs.ProductSheet.{product_sheet}
 use Rattle.products.specs.ProductVerdict.{malformed, bad_row, idle_component, refused_by, rows_outcome}
 use Rattle.columns.specs.Calls.{ColumnsAnswer}
-use Rattle.oatmist.specs.Convention.{FitsWord, CAnswer}
+use Rattle.oatmist.specs.Convention.{FitsWord, PartsFit, CAnswer}
 
 length_first : (b : List ℕ) → ((k : ℕ) → refusal b k ≡ false) → length_wrong b ≡ false
 unfolding refusal
@@ -158,8 +158,14 @@ fits_winner b c = fits_two one_value b c (cond (ltb (length (restated_steps c)) 
 
 -- ---- an answer told as an equal outcome (O4, O7)
 
-pub fits_told : (told : Answer) (o : Outcome (List ℕ)) → outcome_of told ≡ o → FitsWord o → FitsWord (outcome_of told)
-fits_told told o e p = subst FitsWord (sym e) p
+-- a refusal that fits into a word, and so do its parts (O4, O7)
+pub parts_fit : (o : Outcome (List ℕ)) → FitsWord o → PartsFit o
+parts_fit (Outcome.given xs) p = tt
+parts_fit (Outcome.refused k i s) p = (p.2, p.3)
+
+-- an answer that is told as an outcome fits as that outcome does (O4, O7)
+pub fits_told : (told : Answer) (o : Outcome (List ℕ)) → outcome_of told ≡ o → FitsWord o → PartsFit (outcome_of told)
+fits_told told o e p = subst PartsFit (sym e) (parts_fit o p)
 
 -- an answer is handed over as its outcome is (O5)
 pub handed_told : (told : Answer) (o : Outcome (List ℕ)) → outcome_of told ≡ o → (r : ℕ) (old new : List ℕ) → CAnswer (outcome_of told) r old new

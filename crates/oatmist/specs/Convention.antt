@@ -21,3 +21,8 @@ CAnswer (refused k i s) r old new = (r ≡ refusal_word k i s) × (new ≡ old)
 abbrev pub FitsWord : Outcome (List ℕ) → Type 0
 FitsWord (given xs) = Unit {0}
 FitsWord (refused k i s) = (1 ≤ k) × (k < 256) × (s < 256) × (i < 2 ^ 40)
+
+-- a refusal whose sheet and step index fit into their bits (O4, O7)
+abbrev pub PartsFit : Outcome (List ℕ) → Type 0
+PartsFit (given xs) = Unit {0}
+PartsFit (refused k i s) = (s < 256) × (i < 2 ^ 40)

@@ -1,42 +1,29 @@
 // How a call for C tells its answer: 0 and the values in front of a lent array, or the refusal as one number and the array as it came.
-ghost use Rattle.std.specs.Prelude.{◌≡◌, min, ◌<◌, ◌^◌, set};
+ghost use Rattle.std.specs.Prelude.{◌≡◌, ◌<◌, ◌^◌, set};
 ghost use Rattle.answers.specs.declared.Answer.TheVariants.{Accepted};
-ghost use Rattle.answers.specs.Outcomes.{outcome_of};
-ghost use Rattle.oatmist.specs.Convention.{with_values, refusal_word, FitsWord, CAnswer};
+ghost use Rattle.answers.specs.Outcomes.{outcome_of, number_of};
+ghost use Rattle.oatmist.specs.Convention.{with_values, refusal_word, PartsFit, CAnswer};
 
-use answers::{Answer, Sizes};
-
-// The smaller of two lengths.
-fn smaller(a: usize, b: usize) -> usize
-    ensures { result ≡ min a b }
-{
-    if a < b {
-        return a;
-    }
-    b
-}
+use answers::{Answer, Refusal, Sizes};
 
 // Copies as many of the values as there is room for.
 pub fn fill(values: &[u64], out: &mut [u64])
     ensures { out.new ≡ with_values values.now out.old }
 {
-    let count = smaller(values.len(), out.len());
-    let mut k = 0;
-    while k < count {
-        out[k] = values[k];
-        k += 1;
-    }
+    let count = values.len().min(out.len());
+    out[..count].copy_from_slice(&values[..count]);
 }
 
 // A refusal as one number: its number, its sheet from bit 8 on, its step index from bit 16 on.
-fn refusal_word(number: u64, index: u64, sheet: u64) -> u64
-    requires { (number < 256) × (sheet < 256) × (index < 2 ^ 40) }
-    ensures { result ≡ refusal_word number index sheet }
+fn refusal_word(refusal: Refusal, index: u64, sheet: u64) -> u64
+    requires { (sheet < 256) × (index < 2 ^ 40) }
+    ensures { result ≡ refusal_word (number_of refusal) index sheet }
 {
-    number + 256 * sheet + 65536 * index
+    refusal.number() + 256 * sheet + 65536 * index
 }
 
-// Writes a value where there is room for it.
+// Writes a value where there is room for it. By its index: of `get_mut` nothing is known where it gives no place, not even that the array
+// stays as it was.
 fn put(out: &mut [u64], k: usize, value: u64)
     ensures { out.new ≡ set out.old k value }
 {
@@ -58,20 +45,19 @@ fn hand_sizes(sizes: Sizes, out: &mut [u64]) -> u64
 
 // Hands an answer back.
 pub fn hand(told: Answer, out: &mut [u64]) -> u64
-    requires { FitsWord (outcome_of told) }
+    requires { PartsFit (outcome_of told) }
     ensures { CAnswer (outcome_of told) result out.old out.new }
 {
     match told {
         Answer::Accepted(sizes) => hand_sizes(sizes, out),
         Answer::Given(x) => {
-            let values = [x];
-            fill(&values, out);
+            put(out, 0, x);
             0
         }
         Answer::Refused {
-            number,
+            refusal,
             index,
             sheet,
-        } => refusal_word(number, index as u64, sheet),
+        } => refusal_word(refusal, index as u64, sheet),
     }
 }

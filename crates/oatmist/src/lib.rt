@@ -7,7 +7,7 @@ mod convention;
 ghost use Rattle.oatmist.specs.Calls.{CheckForC, EndSetsForC, ProcessForC, FigureForC, StuckForC, RestateForC, ReportForC};
 ghost use Rattle.oatmist.specs.Calls.{SameWorkForC, WinnerForC, LeanerForC, RowsForC, ColumnsForC, VersionTold};
 
-pub use answers::{Answer, EndSets, Sizes};
+pub use answers::{Answer, EndSets, Refusal, Sizes};
 pub use comparing::{leaner, same_work, winner};
 pub use desk::figure::figure_of;
 pub use desk::process::process_check;
@@ -30,12 +30,10 @@ pub fn oatmist_end_sets(sheet: &[u8], ends: &mut [u64]) -> u64
     ensures { EndSetsForC sheet.now result ends.old ends.new }
 {
     let ended = end_sets(sheet);
-    let answer = ended.answer;
-    let Answer::Accepted(_) = answer else {
-        return convention::hand(answer, ends);
+    let Answer::Accepted(_) = ended.answer else {
+        return convention::hand(ended.answer, ends);
     };
-    let sets = ended.sets;
-    convention::fill(&sets, ends);
+    convention::fill(&ended.sets, ends);
     0
 }
 

@@ -2,7 +2,7 @@
 -- records decoded from a part are those of the sheet's tables.
 -- Assumes nothing.
 use mathlib.Core.Path.{◌≡◌, refl, sym, ap, ◌∙◌}
-use mathlib.Core.Logic.{◌≢◌}
+use Rattle.std.specs.Prelude.{Option, Some, None}
 use mathlib.Core.Bool.{Bool, true, false, not}
 use mathlib.Core.List.{List, map}
 use Prim.Native.Nat.{ℕ, ◌+◌, ◌-◌, ◌*◌, ◌/◌, ◌≤◌, ◌<◌}
@@ -19,10 +19,13 @@ use Rattle.sheet.specs.Layout.{component_count, front, states_of, filler_of, ini
 use Rattle.sheet.specs.Layout.{transition_bytes, transition_of, tables_of, tables, step_count, steps}
 use Rattle.sheet.specs.Refusals.{record_wrong, records_wrong, action_unused, transition_wrong, transitions_wrong, rising_bytes, order_wrong, too_many_actions}
 use Rattle.sheet.specs.Verdict.{Verdict, refuse_if}
+use Rattle.sheet.specs.declared.Component.{Component}
 use Rattle.sheet.specs.Sections.{steps_in, transitions_in, alphabet_at, Decoded}
 use Rattle.sheet.proofs.Sections.{decoded_same}
 use Rattle.sheet.proofs.Numbers.{field_within, parts_part}
 use Rattle.answers.specs.declared.Sizes.{Sizes}
+use Rattle.answers.specs.declared.Refusal.{Refusal}
+use Rattle.answers.specs.Outcomes.{number_of}
 use Rattle.answers.specs.SizesRead.{SizesRead}
 use Rattle.reading.specs.Reading.{up_to_trailer}
 use Rattle.reading.specs.records.Alphabets.{unused_in}
@@ -33,29 +36,29 @@ use Rattle.reading.specs.transitions.Fitting.{seven_or_eight}
 same_below : (p q : ℕ → Bool) (n : ℕ) → ((i : ℕ) → i < n → p i ≡ q i) → any_of p (below n) ≡ any_of q (below n)
 same_below p q n h = any_of_same p q (below n) (λ i m. h i ((mem_below n i).0 m))
 
--- ---- refusals 7 and 8, told by one number (O1)
+-- ---- refusals 7 and 8, told as one (O1)
 
-module _ (p q : Bool) (k : ℕ) (v : Verdict) (e : k ≡ seven_or_eight p q) where
-  pub two_refused : k ≢ 0 → refuse_if p 7 (refuse_if q 8 v) ≡ Verdict.refused k 0
-  two_refused n = go p q e
+module _ (p q : Bool) (v : Verdict) where
+  pub two_refused : (r : Refusal) → Some r ≡ seven_or_eight p q → refuse_if p 7 (refuse_if q 8 v) ≡ Verdict.refused (number_of r) 0
+  two_refused r e = go p q e
     where
-      go : (x y : Bool) → k ≡ seven_or_eight x y → refuse_if x 7 (refuse_if y 8 v) ≡ Verdict.refused k 0
-      go true y f = ap (λ (i : ℕ). Verdict.refused i 0) (sym f)
-      go false true f = ap (λ (i : ℕ). Verdict.refused i 0) (sym f)
-      go false false f = absurd (n f)
+      go : (x y : Bool) → Some r ≡ seven_or_eight x y → refuse_if x 7 (refuse_if y 8 v) ≡ Verdict.refused (number_of r) 0
+      go true y f = let same : r ≡ Refusal.Transition = cc in rw same refl
+      go false true f = let same : r ≡ Refusal.Order = cc in rw same refl
+      go false false f = let z : ◌≡◌ {A = ℕ} 0 1 = cc in absurd (omega arith)
 
-  pub two_passed : k ≡ 0 → refuse_if p 7 (refuse_if q 8 v) ≡ v
-  two_passed n = go p q e
+  pub two_passed : None ≡ seven_or_eight p q → refuse_if p 7 (refuse_if q 8 v) ≡ v
+  two_passed e = go p q e
     where
-      go : (x y : Bool) → k ≡ seven_or_eight x y → refuse_if x 7 (refuse_if y 8 v) ≡ v
-      go true y f = absurd (omega arith)
-      go false true f = absurd (omega arith)
+      go : (x y : Bool) → None ≡ seven_or_eight x y → refuse_if x 7 (refuse_if y 8 v) ≡ v
+      go true y f = let z : ◌≡◌ {A = ℕ} 0 1 = cc in absurd (omega arith)
+      go false true f = let z : ◌≡◌ {A = ℕ} 0 1 = cc in absurd (omega arith)
       go false false f = refl
 
 -- ---- the sections of a sheet whose trailer passed (S2, F6)
 
 abbrev records_part : List ℕ → Sizes → List ℕ
-records_part b z = take (z.t - 0) (drop 0 b)
+records_part b z = take z.t b
 
 abbrev transitions_part : List ℕ → Sizes → List ℕ
 transitions_part b z = take (z.s - z.t) (drop z.t b)
@@ -78,7 +81,7 @@ module _ {b : List ℕ} {z : Sizes} (r : SizesRead b z) where
   module _ (j : ℕ) (l : j < z.n) where
     field_same : (at size : ℕ) → at + size ≤ record_size * j + record_size → field at size (records_part b z) ≡ field at size (front b)
     field_same at size h =
-        field_within at size (z.t - 0) b (omega arith) ∙ sym (field_within at size z.s b (omega arith)) ∙ ap (field at size) front_read
+        field_within at size z.t b (omega arith) ∙ sym (field_within at size z.s b (omega arith)) ∙ ap (field at size) front_read
 
     states_same : states_of (records_part b z) j ≡ states_of (front b) j
     unfolding states_of
@@ -100,22 +103,22 @@ module _ {b : List ℕ} {z : Sizes} (r : SizesRead b z) where
     unfolding record_wrong
     record_same = rw (states_same, filler_same, initial_same, alphabet_same)
 
-  -- the records decoded from their section are those of the bytes before the steps
-  pub decoded_part : {l : List ℕ} → Decoded (tables_of (records_part b z) z.n z.m) z.n l
-      → Decoded (tables_of (take z.s b) z.n z.m) z.n l
-  unfolding tables_of
-  decoded_part {l} D =
-      rw front_read
-      (decoded_same (tables_of (records_part b z) z.n z.m) (tables_of (front b) z.n z.m) z.n l refl
-      (λ j k. (states_same j k, initial_same j k, alphabet_same j k)) D)
-
-  -- and so those of the sheet's tables
+  -- the sheet's tables are those of the bytes before the steps
   tables_read : tables_of (take z.s b) z.n z.m ≡ tables b
   unfolding tables
   tables_read = rw (front_read, r.n_read, r.m_read)
 
-  pub decoded_read : {l : List ℕ} → Decoded (tables_of (records_part b z) z.n z.m) z.n l → Decoded (tables b) z.n l
-  decoded_read D = rw tables_read at (decoded_part D)
+  -- and so are the records decoded from their section
+  module _ {l : List Component} {n : ℕ} (e : n ≡ z.n) (size : length l ≡ n) (D : (m : ℕ) → Decoded (tables_of (records_part b z) n m) l) where
+    pub decoded_part : Decoded (tables_of (take z.s b) z.n z.m) l
+    unfolding tables_of
+    decoded_part =
+        rw front_read
+        (decoded_same (tables_of (records_part b z) n z.m) (tables_of (front b) z.n z.m) l e
+        (λ j k. let low : j < z.n = omega arith in (states_same j low, initial_same j low, alphabet_same j low)) (D z.m))
+
+    pub decoded_read : Decoded (tables b) l
+    decoded_read = rw tables_read at decoded_part
 
   transition_bytes_fact : parts 4 (length (transitions_part b z) / 4) (transitions_part b z) ≡ transition_bytes (front b) (component_count b)
   unfolding transition_bytes front
@@ -137,24 +140,26 @@ module _ {b : List ℕ} {z : Sizes} (r : SizesRead b z) where
   -- ---- the refusals of the sheet, by what was answered of the parts
 
   -- R5
-  pub records_told : {x : Bool} → x ≡ any_of (record_wrong (records_part b z) z.m) (below z.n) → records_wrong b ≡ x
+  pub records_told : {x : Bool} → x ≡ any_of (record_wrong (records_part b z) z.m) (below (length (records_part b z) / 16)) → records_wrong b ≡ x
   unfolding records_wrong
-  records_told e =
-      rw (← r.n_read, ← r.m_read) (sym (e ∙ same_below (record_wrong (records_part b z) z.m) (record_wrong (front b) z.m) z.n record_same))
+  records_told {x} e =
+      let count : length (records_part b z) / 16 ≡ z.n = omega (arith, length-take {A = ℕ}) in
+      let told : x ≡ any_of (record_wrong (records_part b z) z.m) (below z.n) = rw (← count) e in
+      rw (← r.n_read, ← r.m_read) (sym (told ∙ same_below (record_wrong (records_part b z) z.m) (record_wrong (front b) z.m) z.n record_same))
 
   -- R6, of the decoded records
-  pub actions_told : {l : List ℕ} → Decoded (tables b) z.n l → {x : Bool} → x ≡ unused_in l z.n z.m → action_unused b ≡ x
+  pub actions_told : {l : List Component} → length l ≡ z.n → Decoded (tables b) l → {x : Bool} → x ≡ unused_in l z.m → action_unused b ≡ x
   unfolding action_unused
-  actions_told {l} D e =
-      rw (← r.n_read, ← r.m_read)
+  actions_told {l} n D e =
+      rw (← r.n_read, ← r.m_read, ← n)
       (sym
       (e
-      ∙ same_below (λ a. not (any_of (λ j. member (alphabet_at l j) a) (below z.n))) _ z.m
+      ∙ same_below (λ a. not (any_of (λ j. member (alphabet_at l j) a) (below (length l)))) _ z.m
       (λ a m. ap not
-      (same_below (λ j. member (alphabet_at l j) a) _ z.n (λ j k. ap (λ (x : ℕ). member x a) (D.alphabet_told j k))))))
+      (same_below (λ j. member (alphabet_at l j) a) _ (length l) (λ j k. ap (λ (x : ℕ). member x a) (D.alphabet_told j k))))))
 
   -- R7 and R8
-  pub transitions_told : {k : ℕ}
+  pub transitions_told : {k : Option Refusal}
       → k
       ≡ seven_or_eight (any_of (transition_wrong (tables b)) (transitions_in (transitions_part b z)))
       (not (rising_bytes (parts 4 (length (transitions_part b z) / 4) (transitions_part b z))))

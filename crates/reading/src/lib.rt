@@ -15,7 +15,8 @@ ghost use Rattle.answers.specs.declared.Answer.TheVariants.{Accepted};
 ghost use Rattle.answers.specs.Outcomes.{outcome_of, read_outcome};
 ghost use Rattle.reading.specs.Reading.{TrailerPassed, up_to_trailer};
 
-use answers::{Answer, Sizes};
+use answers::{Answer, Refusal, Sizes};
+use sheet::Component;
 
 // The sizes that the trailer tells.
 fn sizes(sheet: &[u8]) -> Answer
@@ -24,42 +25,42 @@ fn sizes(sheet: &[u8]) -> Answer
 {
     let l = sheet.len();
     Answer::Accepted(Sizes {
-        n: numbers::wide(sheet[l - 4]) as usize,
-        m: numbers::wide(sheet[l - 3]) as usize,
-        t: numbers::number2(sheet, l - 8) as usize,
-        s: numbers::number2(sheet, l - 6) as usize,
+        n: usize::from(sheet[l - 4]),
+        m: usize::from(sheet[l - 3]),
+        t: numbers::number::<2>(sheet, l - 8) as usize,
+        s: numbers::number::<2>(sheet, l - 6) as usize,
     })
 }
 
-// Refusals 1 to 4: the first that holds, or the sizes.
+// Refusals 1 to 4: the first that holds, or the sizes. Each test may take those before it as passed, so they stand one after another.
+#[tactic(auto, using(crate::proofs::trailer::Trailer::long_enough))]
 pub fn read_trailer(sheet: &[u8]) -> Answer
     ensures { outcome_of result ≡ read_outcome sheet.now (trailer_verdict sheet.now accepted) }
 {
     if trailer::length_wrong(sheet) {
-        return answers::refuse(1);
+        return answers::refuse(Refusal::Length);
     }
     if trailer::mark_wrong(sheet) {
-        return answers::refuse(2);
+        return answers::refuse(Refusal::Mark);
     }
     if trailer::counts_wrong(sheet) {
-        return answers::refuse(3);
+        return answers::refuse(Refusal::Counts);
     }
     if trailer::offsets_wrong(sheet) {
-        return answers::refuse(4);
+        return answers::refuse(Refusal::Offsets);
     }
     sizes(sheet)
 }
 
-// Puts the decoded records of n components into `records`.
-pub fn decode(section: &[u8], n: usize, records: &mut [u64])
-    requires { (n ≤ most_components) × (record_size * n ≤ length section.now) × (length records.old ≡ 4 * most_components) }
-    ensures { (m : ℕ) → Decoded (tables_of section.now n m) n records.new }
+// Puts the decoded records of the section into `components`, as many as there are.
+pub fn decode(section: &[u8], components: &mut [Component])
+    requires { (length components.old ≤ most_components) × (record_size * length components.old ≤ length section.now) }
+    ensures { (m : ℕ) → Decoded (tables_of section.now (length components.old) m) components.new }
 {
     let mut base = 0;
-    let mut j = 0;
-    while j < n {
-        base = records::decode_record(section, j, base, records);
-        j += 1;
+    for (j, component) in components.iter_mut().enumerate() {
+        *component = records::decoded(section, j, base);
+        base += component.states;
     }
 }
 
@@ -71,17 +72,14 @@ pub fn step_section(sheet: &[u8], s: usize) -> &[u8]
     &sheet[s..sheet.len() - 10]
 }
 
-// How many actions the steps of the section have together.
+// How many actions the steps of the section have together. They are gone over by their number: with `Steps` the loop takes twice as long.
 pub fn actions_in(section: &[u8]) -> u64
     requires { length section.now ≤ step_size * most_steps }
     ensures { result ≡ length (flat (steps_in section.now)) }
 {
-    let count = section.len() / 8;
-    let mut sum = 0u64;
-    let mut k = 0;
-    while k < count {
-        sum += sets::count(numbers::step_at(section, k)) as u64;
-        k += 1;
+    let mut sum = 0;
+    for k in 0..section.len() / 8 {
+        sum += u64::from(sets::count(numbers::step_at(section, k)));
     }
     sum
 }
@@ -91,36 +89,31 @@ fn too_many(section: &[u8]) -> bool
     requires { length section.now ≤ step_size * most_steps }
     ensures { result ≡ ltb most_in_steps (length (flat (steps_in section.now))) }
 {
-    if section.len() <= 128 {
-        return false;
-    }
-    1024 < actions_in(section)
+    128 < section.len() && 1024 < actions_in(section)
 }
 
-// Refusals 5 to 9 of a sheet whose trailer passed: the first that holds, or the sizes. Of a sheet that passes, the decoded records are left
-// in `records`.
-pub fn read_tables(sheet: &[u8], sizes: Sizes, records: &mut [u64]) -> Answer
-    requires { TrailerPassed sheet.now sizes × (length records.old ≡ 4 * most_components) }
+// Refusals 5 to 9 of a sheet whose trailer passed: the first that holds, or the sizes. Sheet and sizes stand beside each other, since
+// `read_trailer` answers the sizes alone. Of a sheet that passes, the decoded records are left in `components`.
+#[tactic(auto, using(crate::proofs::Passing::trailer_read))]
+pub fn read_tables(sheet: &[u8], sizes: Sizes, components: &mut [Component]) -> Answer
+    requires { TrailerPassed sheet.now sizes × (length components.old ≡ sizes.n) }
     ensures { (outcome_of result ≡ read_outcome sheet.now (tables_verdict sheet.now accepted))
-        × (result ≡ Accepted sizes → Decoded (tables_of (take sizes.s sheet.now) sizes.n sizes.m) sizes.n records.new) }
+        × (result ≡ Accepted sizes → Decoded (tables_of (take sizes.s sheet.now) sizes.n sizes.m) components.new) }
 {
-    let n = sizes.n;
-    let t = sizes.t;
-    let s = sizes.s;
-    let front = &sheet[0..t];
-    if records::records_wrong(front, n, sizes.m as u64) {
-        return answers::refuse(5);
+    let Sizes { m, t, s, .. } = sizes;
+    let front = &sheet[..t];
+    if records::records_wrong(front, m as u64) {
+        return answers::refuse(Refusal::Record);
     }
-    decode(front, n, records);
-    if records::action_unused(records, n, sizes.m as u32) {
-        return answers::refuse(6);
+    decode(front, components);
+    if records::action_unused(components, m as u32) {
+        return answers::refuse(Refusal::UnusedAction);
     }
-    let refusal = transitions::refusal(&sheet[t..s], records, n);
-    if refusal != 0 {
+    if let Some(refusal) = transitions::refusal(&sheet[t..s], components) {
         return answers::refuse(refusal);
     }
     if too_many(step_section(sheet, s)) {
-        return answers::refuse(9);
+        return answers::refuse(Refusal::TooManyActions);
     }
     Answer::Accepted(sizes)
 }

@@ -1,4 +1,5 @@
-// Refusals 1 to 4: the length of a sheet, its closing mark, its counts and its offsets.
+// Refusals 1 to 4: the length of a sheet, its closing mark, its counts and its offsets. Each test may take those before it as passed. That there is
+// a trailer is a clause, and no type: a sheet that is not judged yet comes as the bytes that it is.
 ghost use Rattle.std.specs.Prelude.{◌≡◌, not, ◌||◌, ◌-◌, ◌*◌, ◌%◌, ◌<◌, ◌≤◌, ltb, eqb, length};
 ghost use Rattle.sheet.specs.Bounds.{trailer_size};
 ghost use Rattle.sheet.specs.Refusals.{outside, length_wrong, mark_wrong, counts_wrong, offsets_wrong};
@@ -7,7 +8,7 @@ ghost use Rattle.sheet.specs.Refusals.{outside, length_wrong, mark_wrong, counts
 pub fn out_of_range(low: u64, high: u64, x: u64) -> bool
     ensures { result ≡ outside low high x }
 {
-    (x < low) | (high < x)
+    !(low..=high).contains(&x)
 }
 
 // 1: whether the sheet is too short or too long.
@@ -19,12 +20,9 @@ pub fn length_wrong(sheet: &[u8]) -> bool
 
 // 2: whether the sheet is not closed by the mark.
 pub fn mark_wrong(sheet: &[u8]) -> bool
-    requires { 2 ≤ length sheet.now }
     ensures { result ≡ mark_wrong sheet.now }
 {
-    let l = sheet.len();
-    let mark = sheet::MARK;
-    (sheet[l - 2] != mark[0]) | (sheet[l - 1] != mark[1])
+    !sheet.ends_with(&sheet::MARK)
 }
 
 // 3: whether there are too few or too many components or actions.
@@ -33,8 +31,7 @@ pub fn counts_wrong(sheet: &[u8]) -> bool
     ensures { result ≡ counts_wrong sheet.now }
 {
     let l = sheet.len();
-    out_of_range(1, 16, numbers::wide(sheet[l - 4]))
-        | out_of_range(1, 64, numbers::wide(sheet[l - 3]))
+    out_of_range(1, 16, u64::from(sheet[l - 4])) | out_of_range(1, 64, u64::from(sheet[l - 3]))
 }
 
 // Whether a section of this length has a part that is not whole, or too many.
@@ -52,14 +49,14 @@ pub fn offsets_wrong(sheet: &[u8]) -> bool
 {
     let l = sheet.len();
     let end = (l - 10) as u64;
-    let c = numbers::number2(sheet, l - 10);
-    let t = numbers::number2(sheet, l - 8);
-    let s = numbers::number2(sheet, l - 6);
+    let c = numbers::number::<2>(sheet, l - 10);
+    let t = numbers::number::<2>(sheet, l - 8);
+    let s = numbers::number::<2>(sheet, l - 6);
     if out_of_range(t, end, s) {
         return true;
     }
     (c != 0)
-        | (t != 16 * numbers::wide(sheet[l - 4]))
+        | (t != 16 * u64::from(sheet[l - 4]))
         | section_length_wrong(s - t, 4)
         | section_length_wrong(end - s, 8)
 }

@@ -35,6 +35,6 @@ report_demand =
       report_serves = λ b out left r c long.
           is_given r (length (report b)) (c.answer_told ∙ ap (values one_value) (room_serves b out long));
       report_writes = writes;
-      refused_untouched = λ b out left k i s c.
-          c.output_left ∙ output_kept b out k i s (refused_only one_value (reporting b (length out)) k i s c.answer_told);
+      refused_untouched = λ b out left r k i s c told.
+          c.output_left ∙ output_kept b out k i s (refused_only one_value (reporting b (length out)) k i s (sym told ∙ c.answer_told));
     }

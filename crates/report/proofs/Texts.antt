@@ -6,11 +6,12 @@ use mathlib.Core.List.{List, [], ◌∷◌, ◌++◌, map, Memᴰ}
 use Prim.Native.Nat.{ℕ, zero, suc, ◌+◌, ◌*◌, ◌^◌, ◌≤◌, ◌<◌}
 use native.Mathlib.Nat.{mul-le-mul_left}
 use native.Mathlib.Omega.{arith}
-use lib.ListN.{length, take, get_or, length-append}
+use lib.ListN.{length, get_or, length-append}
 use Rattle.sets.specs.Lists.{append_all, over, below}
 use Rattle.sets.specs.Bits.{members}
 use Rattle.sets.proofs.Lists.{mem_below}
 use Rattle.systems.specs.Checking.{flat}
+use Rattle.sheet.specs.declared.Component.{Component}
 use Rattle.sheet.specs.Bounds.{longest, most_steps, most_in_steps}
 use Rattle.sheet.specs.Layout.{component_count, action_count, transitions_at, steps_at, step_count, tables, steps}
 use Rattle.sheet.specs.Verdict.{Verdict, verdict, IsVerdict, sheet_refused, step_refused, all_passed, Accepted}
@@ -18,8 +19,9 @@ use Rattle.sheet.proofs.Limits.{limits_exact}
 use Rattle.sheet.proofs.Verdicts.{verdict_first, verdict_number}
 use Rattle.sheet.proofs.RoundTrip.{steps_length}
 use Rattle.answers.specs.declared.Sizes.{Sizes}
+use Rattle.answers.specs.declared.Refusal.TheVariants.{NoRoom}
 use Rattle.answers.specs.declared.Answer.{Answer}
-use Rattle.answers.specs.Outcomes.{Outcome, given, values, one_value, bit, outcome_of, read_outcome}
+use Rattle.answers.specs.Outcomes.{Outcome, given, values, one_value, bit, number_of, outcome_of, read_outcome}
 use Rattle.answers.specs.LentOutput.{output_by}
 use Rattle.answers.specs.Ends.{end_set}
 use Rattle.answers.specs.Restated.{restated_steps}
@@ -28,17 +30,12 @@ use Rattle.answers.specs.Stuck.{stuck}
 use Rattle.answers.specs.Report.{accepted_word, refused_word, end_word, line, step_texts, end_texts, summary_line}
 use Rattle.answers.specs.Report.{step_lines, end_lines, report, reporting, report_output, report_room}
 use Rattle.answers.proofs.Laws.{answer_laws}
-use Rattle.answers.proofs.Normal.{normal_actions}
+use Rattle.answers.proofs.Normal.{normal_actions, normal_no_longer}
 use Rattle.answers.proofs.Restated.{restated_normal, accepted_limits, accepted_order, accepted_fine}
 use Rattle.answers.proofs.Reports.{report_refused, report_accepted}
 use Rattle.answers.proofs.Passing.{NotAccepted, stopped_by}
 use Rattle.answers.proofs.LentOutput.{fitting_short, fitting_long}
-use Rattle.desk.specs.AcceptedSheet.{AcceptedSheet}
-use Rattle.desk.specs.Calls.{end_array_by}
-use Rattle.desk.specs.Left.{PackedSteps}
-use Rattle.desk.proofs.restate.PackedSheets.{restated_few}
-use Rattle.desk.proofs.stuck.EndsHeld.{set_at}
-use Rattle.report.specs.text.Texts.{TextAt}
+use Rattle.desk.specs.AcceptedSheet.{EndsOf, JudgedSheet}
 use Rattle.report.specs.Calls.{refusal_line, ReportAnswer}
 use Rattle.report.proofs.text.Bounds.{line_most, steps_most, ends_most}
 
@@ -48,31 +45,37 @@ texts_same : (f g : ℕ → List ℕ) (js : List ℕ) → ((j : ℕ) → Memᴰ 
 texts_same f g [] e = refl
 texts_same f g (j ∷ js) e = ap₂ ◌++◌ (e j (Memᴰ.head refl)) (texts_same f g js (λ i m. e i (Memᴰ.tail m)))
 
-steps_told : (b packed : List ℕ) (count : ℕ) → PackedSteps b packed count → step_texts (take count packed) ≡ step_lines b
+steps_told : (b steps : List ℕ) → steps ≡ restated_steps b → step_texts steps ≡ step_lines b
 unfolding step_lines
-steps_told b packed count p = ap step_texts p.sets
+steps_told b steps e = ap step_texts e
 
-module _ (b : List ℕ) (z : Sizes) (r : AcceptedSheet b z) (sets : List ℕ) (ended : sets ≡ end_array_by (verdict b) b) where
-  ends_told : end_texts (λ j. get_or sets j 0) (below z.n) ≡ end_lines b
-  unfolding end_lines
-  ends_told =
-      texts_same (λ j. line end_word (j ∷ members (get_or sets j 0))) (λ j. line end_word (j ∷ members (end_set b j))) (below z.n)
-      (λ j i. ap (λ (x : ℕ). line end_word (j ∷ members x)) (set_at b z r sets ended j ((mem_below z.n j).0 i)))
-      ∙ ap (λ (k : ℕ). end_texts (end_set b) (below k)) r.sizes_read.n_read
-
-  pub accepted_text : (numbers packed : List ℕ) (count : ℕ) → line accepted_word numbers ≡ summary_line b → PackedSteps b packed count
-      → line accepted_word numbers ++ (step_texts (take count packed) ++ end_texts (λ j. get_or sets j 0) (below z.n)) ≡ report b
-  accepted_text numbers packed count q p =
-      ap₂ ◌++◌ q (ap₂ ◌++◌ (steps_told b packed count p) ends_told) ∙ sym (report_accepted b r.sheet_accepted)
+ends_told : (b ends : List ℕ) → EndsOf b ends → end_texts (λ j. get_or ends j 0) (below (length ends)) ≡ end_lines b
+unfolding end_lines
+ends_told b ends e =
+    ap (λ (n : ℕ). end_texts (λ j. get_or ends j 0) (below n)) e.count
+    ∙ texts_same (λ j. line end_word (j ∷ members (get_or ends j 0))) (λ j. line end_word (j ∷ members (end_set b j))) (below (component_count b))
+    (λ j i. ap (λ (x : ℕ). line end_word (j ∷ members x)) (e.each j ((mem_below (component_count b) j).0 i)))
 
 -- ---- the line of a refusal (P2)
 
 pub refusal_text : (b : List ℕ) (a : Answer) → NotAccepted a → outcome_of a ≡ read_outcome b (verdict b) → refusal_line a ≡ report b
 refusal_text b a h e =
     let s = stopped_by a h (verdict b) (component_count b) (action_count b) (transitions_at b) (steps_at b) e in
-    ap refusal_line s.answer_told ∙ sym (report_refused b s.number s.index s.verdict_told)
+    ap refusal_line s.answer_told ∙ sym (report_refused b (number_of s.refusal) s.index s.verdict_told)
 
 -- ---- the length of a report: what room it needs (R13)
+
+-- L5, N8: an accepted sheet has few restated steps
+restated_few : (b : List ℕ) → Accepted b → length (restated_steps b) ≤ most_steps
+unfolding step_count
+restated_few b acc =
+    let n = normal_no_longer (tables b) (accepted_order b acc) (steps b) (accepted_fine b acc) in
+    let e = ap length (restated_normal b) in
+    let l = steps_length b in
+    let k = (accepted_limits b acc).trailer_last in
+    let few = k.1 in
+    let whole = k.2 in
+    omega arith
 
 bit_small : (t : Bool) → bit t < 10 ^ 20
 bit_small true = omega arith
@@ -153,24 +156,27 @@ report_short b = go (verdict b) refl
         let m = line_most refused_word (k ∷ i ∷ []) (omega arith, (omega arith, tt)) in
         omega arith
 
--- the room that the lines of an accepted sheet and that of a refusal take
-pub accepted_room : (b : List ℕ) (z : Sizes) → AcceptedSheet b z → (sets : List ℕ) → sets ≡ end_array_by (verdict b) b
-    → (numbers packed : List ℕ) (count : ℕ) → line accepted_word numbers ≡ summary_line b → PackedSteps b packed count
-    → (size : ℕ) → report_room ≤ size
-    → 0 + length (line accepted_word numbers ++ (step_texts (take count packed) ++ end_texts (λ j. get_or sets j 0) (below z.n))) ≤ size
-accepted_room b z r sets ended numbers packed count q p size h =
-    let x = ap length (accepted_text b z r sets ended numbers packed count q p) in
-    let y = report_short b in
-    omega arith
+-- the lines of an accepted sheet, one behind another, are its report (P3 to P5)
+module _ {b : List ℕ} {z : Sizes} {components : List Component} {ends : List ℕ} (J : JudgedSheet b z components ends) (numbers : List ℕ) {steps : List ℕ}
+    (first : line accepted_word numbers ≡ summary_line b) (told : steps ≡ restated_steps b)
+  where
+    pub accepted_text : line accepted_word numbers ++ (step_texts steps ++ end_texts (λ j. get_or ends j 0) (below (length ends))) ≡ report b
+    accepted_text =
+        ap₂ ◌++◌ first (ap₂ ◌++◌ (steps_told b steps told) (ends_told b ends J.ends_told)) ∙ sym (report_accepted b J.sheet.sheet_accepted)
 
-pub refusal_room : (k i size : ℕ) → k < 18446744073709551616 → i < 18446744073709551616 → report_room ≤ size
-    → 0 + length (line refused_word (k ∷ i ∷ [])) ≤ size
-refusal_room k i size few few' h = let m = line_most refused_word (k ∷ i ∷ []) (omega arith, (omega arith, tt)) in omega arith
+    -- they take as many bytes as it has
+    pub accepted_room : length (line accepted_word numbers) + (length (step_texts steps)
+        + length (end_texts (λ j. get_or ends j 0) (below (length ends)))) ≡ length (report b)
+    accepted_room =
+        let e = ap length accepted_text in
+        let x = length-append (line accepted_word numbers) (step_texts steps ++ end_texts (λ j. get_or ends j 0) (below (length ends))) in
+        let y = length-append (step_texts steps) (end_texts (λ j. get_or ends j 0) (below (length ends))) in
+        omega arith
 
 -- ---- what is handed over: the text, or 13 (R13)
 
 -- R13: 13 where the output is too short, and the output as it came (O5)
-pub printed_short : (b out : List ℕ) → length out < length (report b) → ReportAnswer b out (Answer.Refused 13 0 0) out
+pub printed_short : (b out : List ℕ) → length out < length (report b) → ReportAnswer b out (Answer.Refused NoRoom 0 0) out
 unfolding reporting report_output
 printed_short b out h =
     let e = fitting_short (report b) (length out) h in
@@ -187,30 +193,3 @@ printed_long b out h =
 pub room_serves : (b out : List ℕ) → report_room ≤ length out → reporting b (length out) ≡ given (length (report b))
 unfolding reporting
 room_serves b out h = let s = report_short b in fitting_long (report b) (length out) (omega arith)
-
-module _ (b : List ℕ) {x text : List ℕ} {size : ℕ} (W : TextAt (report b) x 0 text size) where
-  size_told : size ≡ length (report b)
-  size_told = let e = W.place in omega arith
-
-  pub text_fits : report_room ≤ length x → size ≤ length text
-  text_fits h =
-      let e = size_told in
-      let s = W.size in
-      let f = report_short b in
-      omega arith
-
-  pub text_told : take size text ≡ report b
-  text_told = W.written
-
-  -- the text as it was made is the report
-  pub too_short : (out : List ℕ) → length out < size → (r : Answer) → r ≡ Answer.Refused 13 0 0 → ReportAnswer b out r out
-  too_short out h r told = let e = size_told in rw told (printed_short b out (omega arith))
-
-  pub copied : (out after : List ℕ) → size ≤ length out → after ≡ over (take size text) out → ReportAnswer b out (Answer.Given size) after
-  copied out after h q =
-      let e = size_told in
-      let p = printed_long b out (omega arith) in
-      record {
-        answer_told = ap (λ (k : ℕ). given (one_value k)) e ∙ p.answer_told;
-        output_left = q ∙ ap (λ (l : List ℕ). over l out) text_told ∙ p.output_left;
-      }

@@ -1,2 +1,3 @@
-pub mod Writers
 pub mod Bounds
+pub mod Digits
+pub mod Appending

@@ -3,6 +3,7 @@
 -- Assumes nothing.
 use Rattle.std.specs.Prelude.{◌≡◌, List, ◌++◌, ℕ, ◌≤◌, length, drop}
 use Rattle.answers.specs.declared.Answer.{Answer}
+use Rattle.answers.specs.Outcomes.{TellsRefusal}
 use Rattle.answers.specs.FirstRefusal.{ReportRefusal, NumberOr}
 use Rattle.answers.specs.Report.{report, report_room}
 use Rattle.report.specs.Calls.{ReportAnswer}
@@ -17,4 +18,4 @@ pub record ReportDemand : Type 0 where
   -- the text stands in front, and the bytes behind it keep their values
   pub report_writes : (b out left : List ℕ) (k : ℕ) → ReportAnswer b out (Answer.Given k) left
       → (k ≡ length (report b)) × (left ≡ report b ++ drop k out)
-  pub refused_untouched : (b out left : List ℕ) (k i s : ℕ) → ReportAnswer b out (Answer.Refused k i s) left → left ≡ out
+  pub refused_untouched : (b out left : List ℕ) (r : Answer) (k i s : ℕ) → ReportAnswer b out r left → TellsRefusal r k i s → left ≡ out

@@ -1,160 +1,150 @@
-// Text written into a buffer: bytes, numbers in decimal, lists of numbers, lines, and the lines of steps and of sets.
-ghost use Rattle.std.specs.Prelude.{◌≡◌, [], ◌∷◌, map, ◌+◌, ◌<◌, ◌≤◌, length, take, drop, get_or};
+// The text of a report under construction: bytes, numbers in decimal, lists of numbers, lines, and the lines of steps and of sets, each
+// written behind what stands there.
+ghost use Rattle.std.specs.Prelude.{◌≡◌, List, [], ◌∷◌, ◌++◌, map, ℕ, ◌+◌, ◌<◌, ◌≤◌, length, take, get_or};
 ghost use Rattle.sets.specs.Lists.{below, append_all};
 ghost use Rattle.sets.specs.Bits.{members};
-ghost use Rattle.answers.specs.Report.{digits_before, decimal, part, line, step_word, end_word, step_texts, end_texts};
-ghost use Rattle.report.specs.text.Texts.{TextAt};
+ghost use Rattle.answers.specs.Report.{decimal, part, line, step_word, end_word, step_texts, end_texts, report_room};
 
-// The decimal digits of a number, which begin at `from`.
-#[derive(Clone, Copy)]
-struct Digits {
-    from: usize,
-    bytes: [u8; 20],
+use sets::Elements;
+use std::marker::Model;
+
+// The first `used` bytes are the text so far. There is room for every report.
+#[derive(Drop)]
+pub struct Text {
+    bytes: [u8; 16384],
+    used: usize,
 }
 
-// Writes a byte at a place, and gives back the next place.
-fn put_byte(byte: u8, out: &mut [u8], at: usize) -> usize
-    requires { at < length out.old }
-    ensures { TextAt (byte ∷ []) out.old at out.new result }
-{
-    out[at] = byte;
-    at + 1
+impl Model for Text {
+    ghost Value = { List ℕ };
+
+    ghost view = { λ t. take t.used t.bytes };
+
+    ghost invariant = { λ t. t.used ≤ 16384 };
 }
 
-// Writes a text at a place, and gives back the place behind it. So do all writers below.
-fn put_text(text: &[u8], out: &mut [u8], at: usize) -> usize
-    requires { at + length text.now ≤ length out.old }
-    ensures { TextAt text.now out.old at out.new result }
-{
-    let mut to = at;
-    let mut i = 0;
-    while i < text.len() {
-        to = put_byte(text[i], out, to);
-        i += 1;
+impl Text {
+    // A text in which nothing is written yet.
+    pub fn new() -> Text
+        ensures { result ≡ [] }
+    {
+        Text {
+            bytes: [0; 16384],
+            used: 0,
+        }
     }
-    to
-}
 
-// The decimal digits of a number, none for 0.
-fn decimal_digits(x: u64) -> Digits
-    ensures { (length result.bytes ≡ 20) × (result.from ≤ 20) × (drop result.from result.bytes ≡ digits_before 20 x []) }
-{
-    let mut bytes = [0u8; 20];
-    let mut from = 20;
-    let mut left = x;
-    while left != 0 {
-        from -= 1;
-        bytes[from] = (48 + left % 10) as u8;
-        left = left / 10;
+    // The text so far.
+    pub fn written(&self) -> &[u8]
+        ensures { result.now ≡ self.now }
+    {
+        &self.bytes[..self.used]
     }
-    Digits { from, bytes }
-}
 
-// Writes a number in decimal.
-fn put_number(x: u64, out: &mut [u8], at: usize) -> usize
-    requires { at + length (decimal x) ≤ length out.old }
-    ensures { TextAt (decimal x) out.old at out.new result }
-{
-    if x == 0 {
-        return put_byte(48, out, at);
+    // Writes a byte.
+    fn byte(&mut self, byte: u8)
+        requires { length self.old < report_room }
+        ensures { self.new ≡ self.old ++ byte ∷ [] }
+    {
+        self.bytes[self.used] = byte;
+        self.used += 1;
     }
-    let made = decimal_digits(x);
-    let from = made.from;
-    let bytes = made.bytes;
-    put_text(&bytes[from..], out, at)
-}
 
-// Writes a space and a number.
-fn put_part(x: u64, out: &mut [u8], at: usize) -> usize
-    requires { at + length (part x) ≤ length out.old }
-    ensures { TextAt (part x) out.old at out.new result }
-{
-    let to = put_byte(32, out, at);
-    put_number(x, out, to)
-}
-
-// Writes the numbers of a list, a space before each.
-fn put_parts(xs: &[u64], out: &mut [u8], at: usize) -> usize
-    requires { at + length (append_all (map part xs.now)) ≤ length out.old }
-    ensures { TextAt (append_all (map part xs.now)) out.old at out.new result }
-{
-    let mut to = at;
-    let mut i = 0;
-    while i < xs.len() {
-        to = put_part(xs[i], out, to);
-        i += 1;
+    // Writes some bytes.
+    fn text(&mut self, text: &[u8])
+        requires { length self.old + length text.now ≤ report_room }
+        ensures { self.new ≡ self.old ++ text.now }
+    {
+        let end = self.used + text.len();
+        self.bytes[self.used..end].copy_from_slice(text);
+        self.used = end;
     }
-    to
-}
 
-// Writes the elements of a set, a space before each.
-fn put_members(x: u64, out: &mut [u8], at: usize) -> usize
-    requires { at + length (append_all (map part (members x))) ≤ length out.old }
-    ensures { TextAt (append_all (map part (members x))) out.old at out.new result }
-{
-    let mut to = at;
-    let mut left = x;
-    while left != 0 {
-        to = put_part(sets::take_lowest(&mut left) as u64, out, to);
+    // Writes a number in decimal: its digits from the last one to the first. The library's own text of a number (`InlineText::of`) takes
+    // four to seven times as long.
+    fn number(&mut self, x: u64)
+        requires { length self.old + length (decimal x) ≤ report_room }
+        ensures { self.new ≡ self.old ++ decimal x }
+    {
+        let end = self.used + x.max(1).ilog10() as usize + 1;
+        let mut left = x;
+        for place in (self.used..end).rev() {
+            self.bytes[place] = b'0' + (left % 10) as u8;
+            left /= 10;
+        }
+        self.used = end;
     }
-    to
-}
 
-// Writes a line: its word, its numbers and a line feed.
-pub fn put_line(word: &[u8], xs: &[u64], out: &mut [u8], at: usize) -> usize
-    requires { at + length (line word.now xs.now) ≤ length out.old }
-    ensures { TextAt (line word.now xs.now) out.old at out.new result }
-{
-    let behind_word = put_text(word, out, at);
-    let behind_parts = put_parts(xs, out, behind_word);
-    put_byte(10, out, behind_parts)
-}
-
-// Writes the line `step` with the actions of a step.
-fn put_step(x: u64, out: &mut [u8], at: usize) -> usize
-    requires { at + length (line step_word (members x)) ≤ length out.old }
-    ensures { TextAt (line step_word (members x)) out.old at out.new result }
-{
-    let behind_word = put_text(b"step", out, at);
-    let behind_parts = put_members(x, out, behind_word);
-    put_byte(10, out, behind_parts)
-}
-
-// Writes the line `end` with a component's index and the states of its set.
-fn put_end(j: usize, x: u64, out: &mut [u8], at: usize) -> usize
-    requires { at + length (line end_word (j ∷ members x)) ≤ length out.old }
-    ensures { TextAt (line end_word (j ∷ members x)) out.old at out.new result }
-{
-    let behind_word = put_text(b"end", out, at);
-    let behind_index = put_part(j as u64, out, behind_word);
-    let behind_parts = put_members(x, out, behind_index);
-    put_byte(10, out, behind_parts)
-}
-
-// Writes a line for each of the first `count` steps.
-pub fn put_steps(packed: &[u64], count: usize, out: &mut [u8], at: usize) -> usize
-    requires { (count ≤ length packed.now) × (at + length (step_texts (take count packed.now)) ≤ length out.old) }
-    ensures { TextAt (step_texts (take count packed.now)) out.old at out.new result }
-{
-    let mut to = at;
-    let mut k = 0;
-    while k < count {
-        to = put_step(packed[k], out, to);
-        k += 1;
+    // Writes a space and a number.
+    fn part(&mut self, x: u64)
+        requires { length self.old + length (part x) ≤ report_room }
+        ensures { self.new ≡ self.old ++ part x }
+    {
+        self.byte(b' ');
+        self.number(x);
     }
-    to
-}
 
-// Writes a line for each of the first n sets.
-pub fn put_ends(sets: &[u64], n: usize, out: &mut [u8], at: usize) -> usize
-    requires { (n ≤ length sets.now) × (at + length (end_texts (λ j. get_or sets.now j 0) (below n)) ≤ length out.old) }
-    ensures { TextAt (end_texts (λ j. get_or sets.now j 0) (below n)) out.old at out.new result }
-{
-    let mut to = at;
-    let mut j = 0;
-    while j < n {
-        to = put_end(j, sets[j], out, to);
-        j += 1;
+    // Writes the elements of a set, a space before each.
+    fn members(&mut self, x: u64)
+        requires { length self.old + length (append_all (map part (members x))) ≤ report_room }
+        ensures { self.new ≡ self.old ++ append_all (map part (members x)) }
+    {
+        for i in Elements::of(x) {
+            self.part(u64::from(i));
+        }
     }
-    to
+
+    // Writes a line: its word, its numbers, a space before each, and a line feed.
+    pub fn line(&mut self, word: &[u8], xs: &[u64])
+        requires { length self.old + length (line word.now xs.now) ≤ report_room }
+        ensures { self.new ≡ self.old ++ line word.now xs.now }
+    {
+        self.text(word);
+        for x in xs {
+            self.part(*x);
+        }
+        self.byte(b'\n');
+    }
+
+    // Writes the line `step` with the actions of a step. This line, the next one and that of some numbers are three methods: one for all of them
+    // would take an iterator, and state the room that it needs by all that the iterator yields.
+    fn step(&mut self, x: u64)
+        requires { length self.old + length (line step_word (members x)) ≤ report_room }
+        ensures { self.new ≡ self.old ++ line step_word (members x) }
+    {
+        self.text(b"step");
+        self.members(x);
+        self.byte(b'\n');
+    }
+
+    // Writes the line `end` with a component's index and the states of its set.
+    fn end(&mut self, j: usize, x: u64)
+        requires { length self.old + length (line end_word (j ∷ members x)) ≤ report_room }
+        ensures { self.new ≡ self.old ++ line end_word (j ∷ members x) }
+    {
+        self.text(b"end");
+        self.part(j as u64);
+        self.members(x);
+        self.byte(b'\n');
+    }
+
+    // Writes a line for each step.
+    pub fn steps(&mut self, steps: &[u64])
+        requires { length self.old + length (step_texts steps.now) ≤ report_room }
+        ensures { self.new ≡ self.old ++ step_texts steps.now }
+    {
+        for step in steps {
+            self.step(*step);
+        }
+    }
+
+    // Writes a line for each component, by its end set.
+    pub fn ends(&mut self, sets: &[u64])
+        requires { length self.old + length (end_texts (λ j. get_or sets.now j 0) (below (length sets.now))) ≤ report_room }
+        ensures { self.new ≡ self.old ++ end_texts (λ j. get_or sets.now j 0) (below (length sets.now)) }
+    {
+        for (j, set) in sets.iter().enumerate() {
+            self.end(j, *set);
+        }
+    }
 }

@@ -20,7 +20,7 @@ use Rattle.sheet.specs.Layout.{component_count, action_count, transition_of, tab
 use Rattle.sheet.specs.Verdict.{Accepted}
 use Rattle.sheet.proofs.RoundTrip.{ReadsBack, reads_back}
 use Rattle.answers.specs.declared.Answer.{Answer}
-use Rattle.answers.specs.Outcomes.{Outcome, given, refused, values, one_value}
+use Rattle.answers.specs.Outcomes.{Outcome, given, refused, values, one_value, number_of}
 use Rattle.answers.specs.LentOutput.{length_or13}
 use Rattle.answers.specs.FirstRefusal.{Refusal, Numbered, RefusesBy}
 use Rattle.answers.specs.SheetExecution.{system_in}
@@ -251,8 +251,9 @@ rows_demand =
       rows_serves_room = λ b out left r c n long.
           serves b out left r c n (let s = sheet_short (product_of b) (sound b ((passed_holds b).1 n)) in omega arith);
       rows_writes = writes;
-      refused_untouched = λ b out left k i s c.
-          c.output_left ∙ refused_left b out k i s (refused_only one_value (rows_outcome b (length out)) k i s c.answer_told);
+      refused_untouched = λ b out left r i s c.
+          c.output_left
+          ∙ refused_left b out (number_of r) i s (refused_only one_value (rows_outcome b (length out)) (number_of r) i s c.answer_told);
     }
 
 -- ---- what was written

@@ -1,3 +1,5 @@
 pub mod CallAnswers
 pub mod Demands
+mod Parts
 pub mod Room
+mod Tests

@@ -1,4 +1,4 @@
 mod Looking
 mod Alphabets
 mod Elements
-mod Answers
+pub mod Answers

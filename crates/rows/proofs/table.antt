@@ -1,4 +1,4 @@
-mod Places
+pub mod Places
 mod Leaving
 mod Upward
 pub mod Fronts

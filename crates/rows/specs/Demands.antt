@@ -11,6 +11,7 @@ use Rattle.systems.specs.Interleaving.{Global, ExecutionThrough}
 use Rattle.systems.specs.Independence.{dependent}
 use Rattle.sheet.specs.Layout.{component_count, action_count, tables, steps}
 use Rattle.sheet.specs.Verdict.{Accepted}
+use Rattle.answers.specs.declared.Refusal.{Refusal}
 use Rattle.answers.specs.declared.Answer.{Answer}
 use Rattle.answers.specs.FirstRefusal.{AtMostOne, NumberOr}
 use Rattle.answers.specs.SheetExecution.{system_in}
@@ -62,7 +63,7 @@ pub record RowsDemand : Type 0 where
   pub rows_writes : (b out left : List ℕ) (k : ℕ) → RowsAnswer b out (Answer.Given k) left
       → (k ≡ length (product_sheet (product_of b))) × (left ≡ product_sheet (product_of b) ++ drop k out)
   -- O5: a refused call leaves the output as it came
-  pub refused_untouched : (b out left : List ℕ) (k i s : ℕ) → RowsAnswer b out (Answer.Refused k i s) left → left ≡ out
+  pub refused_untouched : (b out left : List ℕ) (r : Refusal) (i s : ℕ) → RowsAnswer b out (Answer.Refused r i s) left → left ≡ out
 
 -- B3, B4, B7 to B10: of the bytes that calls of rows wrote.
 pub record WrittenDemand : Type 0 where

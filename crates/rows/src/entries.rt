@@ -2,20 +2,13 @@
 ghost use Rattle.std.specs.Prelude.{◌≡◌, not, cond, ◌&&◌, ◌<◌, leb, eqb, length};
 ghost use Rattle.sets.specs.Lists.{any_of, below};
 ghost use Rattle.sets.specs.Bits.{with};
-ghost use Rattle.sheet.specs.Bounds.{most_components, most_actions};
-ghost use Rattle.products.specs.ProductBytes.{idle, entry, product_of};
+ghost use Rattle.sheet.specs.Bounds.{most_actions};
+ghost use Rattle.products.specs.ProductBytes.{idle, product_of};
 ghost use Rattle.products.specs.ProductSheet.{alphabet};
 ghost use Rattle.products.specs.ProductVerdict.{column_wrong};
 ghost use Rattle.rows.specs.Reading.{BeginsLeft, AlphabetsLeft};
-ghost use Rattle.rows.specs.entries.Rows.{RowsStand};
 
-// The number of row g for component j. The rows are the last bytes.
-pub fn number_at(product: &[u8], n: usize, m: usize, g: usize, j: usize) -> u8
-    requires { RowsStand product.now n m × (g < m) × (j < n) }
-    ensures { result ≡ entry product.now g j }
-{
-    product[product.len() - n * m + n * g + j]
-}
+use crate::product::{Part, Rows};
 
 // Whether a component with `count` transitions has none with this number; 255 is idle.
 fn number_out(number: u8, count: u8) -> bool
@@ -25,32 +18,27 @@ fn number_out(number: u8, count: u8) -> bool
 }
 
 // 15, of the column of component j, which has `count` transitions.
-fn column_out(product: &[u8], n: usize, m: usize, j: usize, count: u8) -> bool
-    requires { RowsStand product.now n m × (j < n) × (count ≡ ((product_of product.now).component j).transitions) }
-    ensures { result ≡ column_wrong (product_of product.now) j }
+fn column_out(rows: Rows, j: usize, count: u8) -> bool
+    requires { (j < rows.n) × (count ≡ ((product_of rows.bytes.now).component j).transitions) }
+    ensures { result ≡ column_wrong (product_of rows.entry.bytes.now) j }
 {
-    let mut g = 0;
-    while g < m {
-        if number_out(number_at(product, n, m, g, j), count) {
+    for g in 0..rows.m {
+        if number_out(rows.number(g, j), count) {
             return true;
         }
-        g += 1;
     }
     false
 }
 
 // 15, of all columns: whether some row has a number that its component has no transition for.
-pub fn numbers_out(product: &[u8], n: usize, m: usize, begins: &[u64]) -> bool
-    requires { RowsStand product.now n m × BeginsLeft product.now begins.now }
-    ensures { result ≡ any_of (column_wrong (product_of product.now)) (below n) }
+pub fn numbers_out(rows: Rows, parts: &[Part]) -> bool
+    requires { BeginsLeft rows.bytes.now parts.now }
+    ensures { result ≡ any_of (column_wrong (product_of rows.entry.bytes.now)) (below rows.entry.n) }
 {
-    let mut j = 0;
-    while j < n {
-        let at = begins[j] as usize;
-        if column_out(product, n, m, j, product[at + 2]) {
+    for (j, part) in parts.iter().enumerate() {
+        if column_out(rows, j, rows.bytes[part.begin + 2]) {
             return true;
         }
-        j += 1;
     }
     false
 }
@@ -67,27 +55,23 @@ fn with_row(set: u64, g: u32, number: u8) -> u64
 }
 
 // The alphabet of component j: the rows in which it is not idle.
-fn alphabet_of(product: &[u8], n: usize, m: usize, j: usize) -> u64
-    requires { RowsStand product.now n m × (j < n) }
-    ensures { result ≡ alphabet (product_of product.now) j }
+fn alphabet_of(rows: Rows, j: usize) -> u64
+    requires { j < rows.n }
+    ensures { result ≡ alphabet (product_of rows.entry.bytes.now) j }
 {
     let mut set = 0;
-    let mut g = 0;
-    while g < m {
-        set = with_row(set, g as u32, number_at(product, n, m, g, j));
-        g += 1;
+    for g in 0..rows.m {
+        set = with_row(set, g as u32, rows.number(g, j));
     }
     set
 }
 
-// Puts the alphabet of each component into `alphabets`.
-pub fn fill_alphabets(product: &[u8], n: usize, m: usize, alphabets: &mut [u64])
-    requires { RowsStand product.now n m × (length alphabets.old ≡ most_components) }
-    ensures { AlphabetsLeft product.now alphabets.new }
+// Puts its alphabet into each part.
+pub fn fill_alphabets(rows: Rows, parts: &mut [Part])
+    requires { BeginsLeft rows.bytes.now parts.old }
+    ensures { BeginsLeft rows.entry.bytes.now parts.new × AlphabetsLeft rows.entry.bytes.now parts.new }
 {
-    let mut j = 0;
-    while j < n {
-        alphabets[j] = alphabet_of(product, n, m, j);
-        j += 1;
+    for (j, part) in parts.iter_mut().enumerate() {
+        part.alphabet = alphabet_of(rows, j);
     }
 }

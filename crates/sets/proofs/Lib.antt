@@ -1,6 +1,7 @@
 pub mod Bools
 pub mod Lists
 pub mod Members
+pub mod AllBelow
 pub mod Counting
 pub mod LowestBit
 pub mod Filling

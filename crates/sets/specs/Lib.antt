@@ -2,3 +2,4 @@ pub mod Lists
 pub mod Bits
 pub mod Walk
 pub mod Demands
+pub mod Elements

@@ -13,9 +13,10 @@ use Rattle.sets.specs.Bits.{members}
 use Rattle.sets.proofs.Members.{members_few}
 use Rattle.systems.specs.Tables.{Tables}
 use Rattle.systems.specs.Checking.{flat}
+use Rattle.sheet.specs.declared.Component.{Component}
 use Rattle.sheet.specs.Bounds.{most_in_steps}
 use Rattle.sheet.specs.Numbers.{field}
-use Rattle.sheet.specs.Sections.{steps_in, base_of, Decoded}
+use Rattle.sheet.specs.Sections.{steps_in, base_of, Alphabets, Decoded}
 use Rattle.sheet.proofs.Numbers.{numbers_length, numbers_at}
 
 -- a step has at most 64 actions (S5)
@@ -65,11 +66,10 @@ abbrev pub SameComponent : Tables → Tables → ℕ → Type 0
 SameComponent A B j = (A.states j ≡ B.states j) × (A.initial j ≡ B.initial j) × (A.alphabet j ≡ B.alphabet j)
 
 -- the decoded records of some tables are those of any others with the same components
-pub decoded_same : (A B : Tables) (n : ℕ) (l : List ℕ) → A.components ≡ B.components → ((j : ℕ) → j < n → SameComponent A B j)
-    → Decoded A n l → Decoded B n l
-decoded_same A B n l e same D =
+pub decoded_same : (A B : Tables) (l : List Component) → A.components ≡ B.components → ((j : ℕ) → j < length l → SameComponent A B j)
+    → Decoded A l → Decoded B l
+decoded_same A B l e same D =
     record {
-      size = D.size;
       count = D.count ∙ e;
       few = D.few;
       states_told = λ j h. D.states_told j h ∙ (same j h).0;
@@ -77,3 +77,7 @@ decoded_same A B n l e same D =
       alphabet_told = λ j h. D.alphabet_told j h ∙ (same j h).2;
       base_told = λ j h. D.base_told j h ∙ base_same A B j (λ i b. (same i (omega arith)).0);
     }
+
+-- decoded records have the alphabets
+pub decoded_alphabets : {T : Tables} {l : List Component} → Decoded T l → Alphabets T l
+decoded_alphabets D = record { count = D.count; each = D.alphabet_told }

@@ -1,20 +1,21 @@
 -- N9, F4: the laws of lending: what the output is once a part of it, lent from its middle on, is back with a section written over it.
 -- Each takes what had been written before that section, so that sections add up; and the bytes of a number are its low ones and then its high ones.
 -- Assumes nothing.
-use mathlib.Core.Path.{◌≡◌, sym, ap, ap₂, ◌∙◌}
+use mathlib.Core.Path.{◌≡◌, refl, sym, ap, ap₂, ◌∙◌}
 use mathlib.Core.List.{List, [], ◌∷◌, ◌++◌, append_assoc, append-nil, map, map-append}
 use Prim.Native.Nat.{ℕ, zero, suc, ◌+◌, ◌-◌, ◌*◌, ◌/◌, ◌%◌, ◌^◌, ◌≤◌, ◌<◌}
-use native.Mathlib.Nat.{zero-add, suc-add, pow-suc, mul_comm, div-div-eq-div-mul}
+use native.Mathlib.Nat.{zero-add, suc-add, pow-suc, mul_comm, div-one, div-div-eq-div-mul}
 use native.Mathlib.Numerals.{add-one}
 use native.Mathlib.Omega.{arith}
-use lib.ListN.{length, take, drop, set, get_or, length-append, length-drop, drop_of_length-le}
-use lib.Seq.{take_at, drop_at, take_all, drop-drop, drop-cons, set_at, take-suc, length-take-le}
+use lib.ListN.{length, take, drop, get_or, length-append, length-drop, drop_of_length-le}
+use lib.Seq.{take_at, drop_at, take_all, drop-drop, take-suc, length-take-le}
+use Rattle.std.specs.Int.{w64, byte_at, bytes_low_first, to_le_bytes}
 use borrow.Rule.Slice.PartMut.{mid_of, put_mid}
 use Rattle.sets.specs.Lists.{append_all}
 use Rattle.sets.proofs.Lists.{append_all_append}
 use Rattle.sheet.specs.Numbers.{bytes}
 use Rattle.sheet.specs.Writing.{step_bytes}
-use Rattle.sheet.proofs.Numbers.{length_numbers}
+use Rattle.sheet.proofs.Numbers.{length_bytes, length_numbers}
 use Rattle.sets.specs.Lists.{over}
 
 -- one section behind another
@@ -43,17 +44,6 @@ lent_over p q X {X'} {Y} {a} {k} x at count y =
     none : drop k (drop a X') ≡ []
     none = drop_of_length-le (drop a X') {i = k} (omega (arith, length-drop a X'))
 
--- a byte is stored behind p (N9)
-pub stored_over : (p X : List ℕ) {X' : List ℕ} {i : ℕ} (v : ℕ) → X' ≡ over p X → i ≡ length p → i < length X → set X' i v ≡ over (p ++ (v ∷ [])) X
-stored_over p X {i = i} v x at h =
-    ap (λ (l : List ℕ). set l i v) (x ∙ ap (λ (l : List ℕ). p ++ l) next)
-    ∙ set_at p (get_or X (length p) 0) (drop (suc (length p)) X) v i (sym at)
-    ∙ ap (λ (l : List ℕ). p ++ (v ∷ l)) (sym (ap (drop 1) next))
-    ∙ over_both p (v ∷ []) X
-  where
-    next : drop (length p) X ≡ get_or X (length p) 0 ∷ drop (suc (length p)) X
-    next = drop-cons X (length p) 0 (omega arith)
-
 -- ---- the bytes of a number, the low ones in front (S1)
 
 pub bytes_split : (a b x : ℕ) → bytes (a + b) x ≡ bytes a x ++ bytes b (x / 256 ^ a)
@@ -64,6 +54,28 @@ bytes_split (suc a) b x =
   where
     power : x / 256 / 256 ^ a ≡ x / 256 ^ suc a
     power = div-div-eq-div-mul x 256 (256 ^ a) ∙ ap (λ (y : ℕ). x / y) (mul_comm 256 (256 ^ a) ∙ sym (pow-suc 256 a))
+
+-- the eight bytes that the library makes of a number
+low_first : (i k x : ℕ) → bytes_low_first i k x ≡ bytes k (x / 256 ^ i)
+low_first i zero x = refl
+low_first i (suc k) x =
+    ap₂ (λ (d : ℕ) (l : List ℕ). d ∷ l) (lowest i) (low_first (suc i) k x ∙ ap (bytes k) higher)
+  where
+    lowest : (j : ℕ) → byte_at j x ≡ x / 256 ^ j % 256
+    lowest zero = ap (λ (y : ℕ). y % 256) (sym (div-one x))
+    lowest (suc j) = refl
+
+    higher : x / 256 ^ suc i ≡ x / 256 ^ i / 256
+    higher = ap (λ (y : ℕ). x / y) (pow-suc 256 i) ∙ sym (div-div-eq-div-mul x (256 ^ i) 256)
+
+-- S1: the first of them are those of the number in so many bytes
+pub low_bytes : (n x : ℕ) → n ≤ 8 → take n (to_le_bytes w64 x) ≡ bytes n x
+low_bytes n x h =
+    ap (take n) (low_first 0 8 x ∙ ap (bytes 8) (div-one x) ∙ ap (λ (k : ℕ). bytes k x) whole ∙ bytes_split n (8 - n) x)
+    ∙ take_at (bytes n x) (bytes (8 - n) (x / 256 ^ n)) n (length_bytes n x)
+  where
+    whole : 8 ≡ n + (8 - n)
+    whole = omega arith
 
 -- ---- the steps written so far (S5, N9)
 

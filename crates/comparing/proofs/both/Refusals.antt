@@ -2,7 +2,6 @@
 -- a pair that passed.
 -- Assumes nothing.
 use mathlib.Core.Path.{◌≡◌, refl, sym, ap, ◌∙◌}
-use mathlib.Core.Logic.{inl, inr}
 use mathlib.Core.Bool.{Bool, true, false}
 use mathlib.Core.List.{List, [], ◌∷◌}
 use Prim.Native.Nat.{ℕ}
@@ -11,15 +10,17 @@ use Rattle.sets.proofs.Bools.{not_both}
 use Rattle.sheet.specs.Layout.{component_count, action_count, transitions_at, steps_at}
 use Rattle.sheet.specs.Verdict.{Verdict, verdict, Accepted}
 use Rattle.answers.specs.declared.Sizes.{Sizes}
+use Rattle.answers.specs.declared.Refusal.{Refusal}
 use Rattle.answers.specs.declared.Answer.{Answer}
 use Rattle.answers.specs.Related.{SameTables}
-use Rattle.answers.specs.Outcomes.{Outcome, given, refused, outcome_of, on_sheet, sizes_of, read_outcome}
+use Rattle.answers.specs.Outcomes.{Outcome, given, refused, number_of, outcome_of, on_sheet, sizes_of, read_outcome}
 use Rattle.answers.specs.TwoSheets.{tables_differ, unless_differ, of_two}
-use Rattle.answers.proofs.Passing.{NotAccepted, NotRefused, told_refused}
+use Rattle.answers.proofs.Passing.{NotAccepted}
 use Rattle.answers.proofs.Restated.{accepted_limits}
 use Rattle.answers.proofs.TwoSheets.{differ_false, two_apart, two_given}
 use Rattle.desk.specs.AcceptedSheet.{AcceptedSheet}
-use Rattle.desk.proofs.Accepted.{accepted_sheet}
+use Rattle.desk.specs.Calls.{CheckAnswer}
+use Rattle.desk.proofs.AcceptedFacts.{accepted_sheet}
 
 -- the sizes as a list
 abbrev listed : Sizes → List ℕ
@@ -27,30 +28,17 @@ listed z = z.n ∷ z.m ∷ z.t ∷ z.s ∷ []
 
 -- ---- the check of the second sheet (O6, O7)
 
-module _ (v : Verdict) (n m t s : ℕ) where
-  pub second_accepted : (a : Answer) → NotRefused a → outcome_of a ≡ on_sheet 0 v (given (n ∷ m ∷ t ∷ s ∷ []))
-      → outcome_of a ≡ on_sheet 1 v (given (n ∷ m ∷ t ∷ s ∷ []))
-  second_accepted a h e = go a v h e
-    where
-      go : (a : Answer) (v : Verdict) → NotRefused a → outcome_of a ≡ on_sheet 0 v (given (n ∷ m ∷ t ∷ s ∷ []))
-          → outcome_of a ≡ on_sheet 1 v (given (n ∷ m ∷ t ∷ s ∷ []))
-      go a Verdict.accepted h e = e
-      go (Answer.Accepted z) (Verdict.refused k i) h e = let z : ◌≡◌ {A = ℕ} 0 1 = cc in absurd (omega arith)
-      go (Answer.Given x) (Verdict.refused k i) h e = let z : ◌≡◌ {A = ℕ} 0 1 = cc in absurd (omega arith)
-      go (Answer.Refused l j w) (Verdict.refused k i) h e = absurd (h l j w refl)
-
-  pub second_refused : (a : Answer) (k i w : ℕ) → a ≡ Answer.Refused k i w → outcome_of a ≡ on_sheet 0 v (given (n ∷ m ∷ t ∷ s ∷ []))
-      → refused k i 1 ≡ on_sheet 1 v (given (n ∷ m ∷ t ∷ s ∷ []))
-  second_refused a k i w q e = rw (told_refused k i w v (n ∷ m ∷ t ∷ s ∷ []) (ap outcome_of (sym q) ∙ e)).0 refl
-
 -- an accepted second sheet tells what the check of it alone tells (N1)
-pub second_told : (c : List ℕ) (a : Answer) (z : Sizes) → a ≡ Answer.Accepted z → outcome_of a ≡ on_sheet 1 (verdict c) (given (sizes_of c))
-    → AcceptedSheet c z
-second_told c a z q e = accepted_sheet c z (go (verdict c) (ap outcome_of (sym q) ∙ e))
+pub second_sheet : (c : List ℕ) (z : Sizes) → outcome_of (Answer.Accepted z) ≡ on_sheet 1 (verdict c) (given (sizes_of c)) → AcceptedSheet c z
+second_sheet c z e = accepted_sheet c z (go (verdict c) e)
   where
     go : (v : Verdict) → outcome_of (Answer.Accepted z) ≡ on_sheet 1 v (given (sizes_of c)) → outcome_of (Answer.Accepted z) ≡ read_outcome c v
     go Verdict.accepted h = h
     go (Verdict.refused k i) h = let z : ◌≡◌ {A = ℕ} 0 1 = cc in absurd (omega arith)
+
+-- N1: an accepted sheet tells its sizes
+pub sizes_told : (b : List ℕ) (z : Sizes) → AcceptedSheet b z → CheckAnswer b (Answer.Accepted z)
+sizes_told b z k = let r = k.sizes_read in rw (k.sheet_accepted, r.n_read, r.m_read, r.t_read, r.s_read) refl
 
 -- ---- the check of both (O6)
 
@@ -79,11 +67,20 @@ module _ (b c : List ℕ) where
   pub tables_stop : Accepted b → Accepted c → tables_differ b c ≡ true → refused 14 0 0 ≡ of_two b c (sizes_of b)
   tables_stop acc acc' e = sym (two_apart b c (sizes_of b) acc acc' (λ t. not_both e ((differ_false b c).1 t)))
 
-  pub two_pass : (z : Sizes) → AcceptedSheet b z → Accepted c → tables_differ b c ≡ false → given (listed z) ≡ of_two b c (sizes_of b)
-  two_pass z r acc e = sym ((two_given b c (sizes_of b) (listed z)).1 (r.sheet_accepted, acc, (differ_false b c).0 e, told))
+  pub two_pass : (z : Sizes) → AcceptedSheet b z → (w : Sizes) → AcceptedSheet c w → tables_differ b c ≡ false
+      → given (listed w) ≡ of_two b c (sizes_of b)
+  two_pass z r w k e =
+      let same = (differ_false b c).0 e in
+      sym ((two_given b c (sizes_of b) (listed w)).1 (r.sheet_accepted, k.sheet_accepted, same, told same))
     where
-      told : sizes_of b ≡ listed z
-      told = rw (r.sizes_read.n_read, r.sizes_read.m_read, r.sizes_read.t_read, r.sizes_read.s_read) refl
+      told : SameTables b c → sizes_of b ≡ listed w
+      told same =
+          let one = (accepted_limits b r.sheet_accepted).transitions_next in
+          let next = (accepted_limits c k.sheet_accepted).transitions_next in
+          let n = same.same_components in
+          let third : transitions_at b ≡ transitions_at c = omega arith in
+          let m = k.sizes_read in
+          rw (m.n_read, m.m_read, m.t_read, m.s_read, same.same_components, same.same_actions, third, same.same_steps_at) refl
 
 -- ---- a pair that passed, and one that was refused (O6, O7)
 
@@ -122,11 +119,11 @@ both_passed b c a z q e = record { first_accepted = one; second_accepted = accep
 
 -- the answer is a refusal, and the pair gets it whatever it would get (O6, O7)
 pub record TwoRefused (b c : List ℕ) (a : Answer) : Type 0 where
-  pub number : ℕ
+  pub refusal : Refusal
   pub index : ℕ
   pub sheet : ℕ
-  pub answer_told : a ≡ Answer.Refused number index sheet
-  pub two_told : refused number index sheet ≡ of_two b c (sizes_of b)
+  pub answer_told : a ≡ Answer.Refused refusal index sheet
+  pub two_told : refused (number_of refusal) index sheet ≡ of_two b c (sizes_of b)
 
 pub refused_two : (b c : List ℕ) (a : Answer) → NotAccepted a → outcome_of a ≡ of_two b c (sizes_of b) → TwoRefused b c a
 refused_two b c (Answer.Accepted z) h e = absurd (h z refl)
@@ -134,7 +131,7 @@ refused_two b c (Answer.Given y) h e =
     let told = ((two_given b c (sizes_of b) (y ∷ [])).0 (sym e)).3 in
     let z : ◌≡◌ {A = ℕ} 0 1 = cc in
     absurd (omega arith)
-refused_two b c (Answer.Refused k i s) h e = record { number = k; index = i; sheet = s; answer_told = refl; two_told = e }
+refused_two b c (Answer.Refused r i s) h e = record { refusal = r; index = i; sheet = s; answer_told = refl; two_told = e }
 
 -- O6: the refusal of a pair does not depend on what was asked of it
 pub refused_alike : {A B : Type 0} (b c : List ℕ) (x : A) (y : B) (k i s : ℕ) → refused k i s ≡ of_two b c x → refused k i s ≡ of_two b c y

@@ -16,7 +16,8 @@ use Rattle.sets.proofs.Bools.{not_both, or_true, eqb_true, equal_or_not}
 use Rattle.sets.proofs.Members.{member_zero, member_with, lt_members}
 use Rattle.sets.proofs.Walks.{taken_or_left}
 use Rattle.systems.specs.Tables.{Tables}
-use Rattle.sheet.specs.Sections.{Alphabets}
+use Rattle.sheet.specs.declared.Component.{Component}
+use Rattle.sheet.specs.Sections.{Alphabets, alphabet_at}
 use Rattle.dependence.specs.participants.Participants.{participates, Participants, OfSixteen, ComponentEntered}
 
 -- ---- one alphabet, action by action
@@ -80,13 +81,13 @@ module _ (left low rest j : ℕ) (found after : List ℕ) (size : length found �
 
 -- ---- alphabet by alphabet
 
--- the components below k have been entered, each for the actions of its alphabet in the list l
-pub record EnteredBelow (l : List ℕ) (k : ℕ) (found : List ℕ) : Type 0 where
+-- the components below k have been entered, each for the actions of its alphabet in the list l of components
+pub record EnteredBelow (l : List Component) (k : ℕ) (found : List ℕ) : Type 0 where
   pub size : length found ≡ 64
-  pub each : (a : ℕ) → a < 64 → (j : ℕ) → (participates found j a ≡ true) ↔ ((j < k) × (member (get_or l j 0) a ≡ true))
+  pub each : (a : ℕ) → a < 64 → (j : ℕ) → (participates found j a ≡ true) ↔ ((j < k) × (member (alphabet_at l j) a ≡ true))
 
 -- no component has been entered
-pub below_zero : (l found : List ℕ) → found ≡ replicate 64 0 → EnteredBelow l 0 found
+pub below_zero : (l : List Component) (found : List ℕ) → found ≡ replicate 64 0 → EnteredBelow l 0 found
 below_zero l found e =
     record {
       size = ap length e;
@@ -97,37 +98,37 @@ below_zero l found e =
       );
     }
 
-module _ (l : List ℕ) (j k : ℕ) (e : k ≡ suc j) (found after : List ℕ) (O : EnteredBelow l j found)
-    (E : ComponentEntered (get_or l j 0) j found after) where
+module _ (l : List Component) (j k : ℕ) (e : k ≡ suc j) (found after : List ℕ) (O : EnteredBelow l j found)
+    (E : ComponentEntered (alphabet_at l j) j found after) where
   -- one alphabet more
   pub below_more : EnteredBelow l k after
   below_more = record { size = E.size; each = λ a h i. (λ m. there a h i ((E.each a h i).0 m), λ s. (E.each a h i).1 (back a h i s.0 s.1)) }
     where
-      there : (a : ℕ) → a < 64 → (i : ℕ) → (member (get_or found a 0) i ≡ true) ⊎ ((i ≡ j) × (member (get_or l j 0) a ≡ true))
-          → (i < k) × (member (get_or l i 0) a ≡ true)
+      there : (a : ℕ) → a < 64 → (i : ℕ) → (member (get_or found a 0) i ≡ true) ⊎ ((i ≡ j) × (member (alphabet_at l j) a ≡ true))
+          → (i < k) × (member (alphabet_at l i) a ≡ true)
       there a h i (inl m) = let r = (O.each a h i).0 m in (omega arith, r.1)
-      there a h i (inr s) = let q = s.0 in (omega arith, ap (λ (x : ℕ). member (get_or l x 0) a) q ∙ s.1)
+      there a h i (inr s) = let q = s.0 in (omega arith, ap (λ (x : ℕ). member (alphabet_at l x) a) q ∙ s.1)
 
-      back : (a : ℕ) → a < 64 → (i : ℕ) → i < k → member (get_or l i 0) a ≡ true
-          → (member (get_or found a 0) i ≡ true) ⊎ ((i ≡ j) × (member (get_or l j 0) a ≡ true))
+      back : (a : ℕ) → a < 64 → (i : ℕ) → i < k → member (alphabet_at l i) a ≡ true
+          → (member (get_or found a 0) i ≡ true) ⊎ ((i ≡ j) × (member (alphabet_at l j) a ≡ true))
       back a h i b m = go (equal_or_not i j)
         where
-          go : (i ≡ j) ⊎ (i ≢ j) → (member (get_or found a 0) i ≡ true) ⊎ ((i ≡ j) × (member (get_or l j 0) a ≡ true))
-          go (inl q) = inr (q, ap (λ (x : ℕ). member (get_or l x 0) a) (sym q) ∙ m)
+          go : (i ≡ j) ⊎ (i ≢ j) → (member (get_or found a 0) i ≡ true) ⊎ ((i ≡ j) × (member (alphabet_at l j) a ≡ true))
+          go (inl q) = inr (q, ap (λ (x : ℕ). member (alphabet_at l x) a) (sym q) ∙ m)
           go (inr n) = inl ((O.each a h i).1 (omega arith, m))
 
 -- all components have been entered, by the alphabets of the tables
-pub participants_made : (T : Tables) (n : ℕ) (l found : List ℕ) → Alphabets T n l → EnteredBelow l n found → Participants T found
-participants_made T n l found A O =
+pub participants_made : (T : Tables) (l : List Component) (found : List ℕ) → Alphabets T l → EnteredBelow l (length l) found → Participants T found
+participants_made T l found A O =
     record {
       size = O.size;
       each = λ a h j. (
         λ m. let r = (O.each a h j).0 m in (let e = A.count in omega arith, sym (has a j r.0) ∙ r.1),
-        λ s. let b : j < n = let e = A.count in omega arith in (O.each a h j).1 (b, has a j b ∙ s.1),
+        λ s. let b : j < length l = let e = A.count in omega arith in (O.each a h j).1 (b, has a j b ∙ s.1),
       );
     }
   where
-    has : (a j : ℕ) → j < n → member (get_or l j 0) a ≡ member (T.alphabet j) a
+    has : (a j : ℕ) → j < length l → member (alphabet_at l j) a ≡ member (T.alphabet j) a
     has a j h = ap (λ (x : ℕ). member x a) (A.each j h)
 
 -- ---- what participants are

@@ -7,7 +7,6 @@ use mathlib.Core.Option.{some}
 use Prim.Native.Nat.{ℕ, ◌^◌}
 use native.Mathlib.Omega.{arith}
 use lib.Dec.{eqb, leb}
-use Rattle.sets.proofs.Bools.{or_false, eqb_false}
 use Rattle.systems.specs.Tables.{Tables}
 use Rattle.systems.specs.Checking.{not_actions, not_apart, lowest}
 use Rattle.machine.specs.flaws.Flaws.{number_of, flaw_of}
@@ -23,10 +22,6 @@ module _ (T : Tables) (x : ℕ) where
   -- the number, by the two tests (O3)
   pub flaw_by : {a b : Bool} → not_actions T x ≡ a → not_apart T x ≡ b → number_of (lowest a b false) ≡ flaw_of T x
   flaw_by p q = ap₂ (λ (a b : Bool). number_of (lowest a b false)) (sym p) (sym q)
-
--- a step that is not refused by 10 has an action (R10)
-pub some_action : (x m : ℕ) {r : Bool} → r ≡ (eqb x 0 || leb (2 ^ m) x) → r ≡ false → x ≢ 0
-some_action x m e f = (eqb_false x 0).0 ((or_false (eqb x 0) (leb (2 ^ m) x)).0 (sym e ∙ f)).0
 
 -- ---- from the number to the tests (O3)
 

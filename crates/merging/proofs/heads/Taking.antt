@@ -4,82 +4,77 @@ use mathlib.Core.Path.{◌≡◌, refl, sym, ap, ◌∙◌, subst}
 use mathlib.Core.Logic.{◌≢◌, ◌⊎◌, inl, inr}
 use mathlib.Core.Bool.{Bool, true, false, cond}
 use mathlib.Core.List.{List}
-use Prim.Native.Nat.{ℕ, ◌+◌, ◌≤◌, ◌<◌}
+use Prim.Native.Nat.{ℕ, ◌≤◌, ◌<◌}
 use native.Mathlib.Nat.{lt_of_lt_of_le}
 use native.Mathlib.Omega.{arith}
 use lib.ListN.{length, drop, get_or, set}
 use Rattle.sets.specs.Bits.{member, with}
 use Rattle.sets.specs.Walk.{Takes}
 use Rattle.sets.proofs.Bools.{not_both, false_iff, equal_or_not}
-use Rattle.sets.proofs.Members.{member_lt, member_zero}
-use Rattle.sheet.specs.Bounds.{most_components, most_actions}
+use Rattle.sets.proofs.Members.{member_zero}
+use Rattle.sheet.specs.Bounds.{most_actions}
 use Rattle.dependence.specs.participants.Participants.{participates}
-use Rattle.merging.specs.legible.Reading.{part_of, rest_in}
+use Rattle.merging.specs.legible.Reading.{rest_in}
 use Rattle.columns.specs.Merging.{HeadedBy}
-use Rattle.merging.specs.heads.Heads.{FirstBelow, ShowsFirst, Lined, labels_left, Shown, Everywhere, ActionTaken}
+use Rattle.merging.specs.heads.Heads.{FirstBelow, ShowsFirst, Lined, labels_left, Shown, Everywhere, TakenShown}
 use Rattle.merging.proofs.heads.Showing.{shown_as, shown_more, ready_some, ready_heads, shown_left}
-use Rattle.merging.proofs.heads.Lining.{headed_less, first_below, next_part, next_here, next_other, lined_next, fewer_next}
+use Rattle.merging.proofs.heads.Lining.{headed_inside, first_below, next_part, next_other, lined_next, fewer_next}
 
 -- the action a is taken from the columns of its components but of those that are left
-pub record TakenBut (o d : List ℕ) (a : ℕ) (heads₀ ends heads waiting : List ℕ) (ready left : ℕ) : Type 0 where
-  pub lined : Lined o d heads ends
-  pub shown : Shown o (rest_in d heads ends) (λ i. member left i ≡ false) waiting ready
+pub record TakenBut (o : List ℕ) (a : ℕ) (cs₀ cs : List (List ℕ)) (waiting : List ℕ) (ready left : ℕ) : Type 0 where
+  pub lined : Lined o cs
+  pub shown : Shown o (rest_in cs) (λ i. member left i ≡ false) waiting ready
   pub some : get_or o a 0 ≢ 0
-  pub was_head : (i : ℕ) → participates o i a ≡ true → HeadedBy (rest_in d heads₀ ends) i a
+  pub was_head : (i : ℕ) → participates o i a ≡ true → HeadedBy (rest_in cs₀) i a
   pub own : (i : ℕ) → member left i ≡ true → participates o i a ≡ true
-  pub still : (i : ℕ) → member left i ≡ true → rest_in d heads ends i ≡ rest_in d heads₀ ends i
+  pub still : (i : ℕ) → member left i ≡ true → rest_in cs i ≡ rest_in cs₀ i
   pub moved : (i : ℕ) → member left i ≡ false
-      → rest_in d heads ends i ≡ cond (participates o i a) (drop 1 (rest_in d heads₀ ends i)) (rest_in d heads₀ ends i)
-  pub no_more : labels_left heads ends ≤ labels_left heads₀ ends
-  pub fewer : left ≢ get_or o a 0 → labels_left heads ends < labels_left heads₀ ends
+      → rest_in cs i ≡ cond (participates o i a) (drop 1 (rest_in cs₀ i)) (rest_in cs₀ i)
+  pub no_more : labels_left cs ≤ labels_left cs₀
+  pub fewer : left ≢ get_or o a 0 → labels_left cs < labels_left cs₀
 
 less_le : {x y z : ℕ} → x < y → y ≤ z → x ≤ z
 less_le h l = omega arith
 
 -- before the first component
-pub taken_none : (o d : List ℕ) (a : ℕ) (heads ends waiting : List ℕ) (others : ℕ) → Lined o d heads ends → a < most_actions
-    → member others a ≡ false → Shown o (rest_in d heads ends) Everywhere waiting (with a others)
-    → TakenBut o d a heads ends heads (set waiting a 0) others (get_or o a 0)
-taken_none o d a heads ends waiting others lined below gone s =
+pub taken_none : (o : List ℕ) (a : ℕ) (cs : List (List ℕ)) (waiting : List ℕ) (others : ℕ) → Lined o cs → a < most_actions
+    → member others a ≡ false → Shown o (rest_in cs) Everywhere waiting (with a others)
+    → TakenBut o a cs cs (set waiting a 0) others (get_or o a 0)
+taken_none o a cs waiting others lined below gone s =
     record {
       lined = lined;
-      shown = shown_left o (rest_in d heads ends) waiting a others below lined.own s gone;
-      some = ready_some o (rest_in d heads ends) waiting a others below lined.own s;
-      was_head = ready_heads o (rest_in d heads ends) waiting a others below lined.own s;
+      shown = shown_left o (rest_in cs) waiting a others below lined.own s gone;
+      some = ready_some o (rest_in cs) waiting a others below lined.own s;
+      was_head = ready_heads o (rest_in cs) waiting a others below lined.own s;
       own = λ i m. m;
       still = λ i m. refl;
-      moved = λ i f. sym (ap (λ (t : Bool). cond t (drop 1 (rest_in d heads ends i)) (rest_in d heads ends i)) f);
+      moved = λ i f. sym (ap (λ (t : Bool). cond t (drop 1 (rest_in cs i)) (rest_in cs i)) f);
       no_more = omega arith;
       fewer = λ n. absurd (n refl);
     }
 
-module _ (o d : List ℕ) (a : ℕ) (heads₀ ends heads waiting : List ℕ) (ready left j after : ℕ)
-    (t : TakenBut o d a heads₀ ends heads waiting ready left) (took : Takes left j after) where
-  -- the component is one of sixteen (L1)
-  pub taken_small : j < most_components
-  taken_small = member_lt most_components (get_or o a 0) j (t.lined.sixteen.small a) (t.own j took.own)
-
+module _ (o : List ℕ) (a : ℕ) (cs₀ cs : List (List ℕ)) (waiting : List ℕ) (ready left j after : ℕ)
+    (t : TakenBut o a cs₀ cs waiting ready left) (took : Takes left j after) where
   -- its column still begins with the action
-  at_head : HeadedBy (rest_in d heads ends) j a
+  pub at_head : HeadedBy (rest_in cs) j a
   at_head = let h = t.was_head j (t.own j took.own) in (h.0, t.still j took.own ∙ h.1)
 
-  pub taken_less : get_or heads j 0 < get_or ends j 0
-  taken_less = headed_less o d heads ends t.lined j a at_head
+  -- the component is there, with a label left
+  pub taken_inside : j < length cs
+  taken_inside = headed_inside o cs t.lined j a at_head
 
-  abbrev next : List ℕ
-  next = set heads j (get_or heads j 0 + 1)
+  pub taken_some : 0 < length (rest_in cs j)
+  taken_some = let l = ap length at_head.1 in omega arith
 
-  pub taken_lined : Lined o d next ends
-  taken_lined = lined_next o d heads ends t.lined j taken_small taken_less
+  abbrev next : List (List ℕ)
+  next = set cs j (drop 1 (rest_in cs j))
+
+  pub taken_lined : Lined o next
+  taken_lined = lined_next o cs t.lined j a at_head
 
   -- its next label, where there is one, is the number of an action
-  pub taken_first : FirstBelow (part_of d (get_or heads j 0 + 1) (get_or ends j 0))
-  taken_first =
-      subst FirstBelow (next_part o d heads ends t.lined j taken_small taken_less) (first_below o d next ends taken_lined j)
-
-  -- it lies inside of the bytes
-  pub taken_inside : get_or heads j 0 + 1 ≤ length d
-  taken_inside = let less = taken_less in let inside = t.lined.inside j in omega (arith, less, inside)
+  pub taken_first : FirstBelow (drop 1 (rest_in cs j))
+  taken_first = subst FirstBelow (next_part o cs t.lined j a at_head) (first_below o next taken_lined j)
 
   left_not : (i : ℕ) → i ≢ j → member after i ≡ false → member left i ≡ false
   left_not i n f = (false_iff (member left i)).1 (λ m. not_both ((took.rest i).1 (m, n)) f)
@@ -91,8 +86,8 @@ module _ (o d : List ℕ) (a : ℕ) (heads₀ ends heads waiting : List ℕ) (re
   other_than i f e = not_both took.own (ap (member left) (sym e) ∙ f)
 
   -- one component more
-  pub taken_more : (waiting' : List ℕ) (ready' : ℕ) → ShowsFirst (part_of d (get_or heads j 0 + 1) (get_or ends j 0)) j o waiting ready waiting' ready'
-      → TakenBut o d a heads₀ ends next waiting' ready' after
+  pub taken_more : (waiting' : List ℕ) (ready' : ℕ) → ShowsFirst (drop 1 (rest_in cs j)) j o waiting ready waiting' ready'
+      → TakenBut o a cs₀ next waiting' ready' after
   taken_more waiting' ready' f =
       record {
         lined = taken_lined;
@@ -100,17 +95,17 @@ module _ (o d : List ℕ) (a : ℕ) (heads₀ ends heads waiting : List ℕ) (re
         some = t.some;
         was_head = t.was_head;
         own = λ i m. t.own i ((took.rest i).0 m).0;
-        still = λ i m. let r = (took.rest i).0 m in next_other o d heads ends t.lined j taken_small taken_less i r.1 ∙ t.still i r.0;
+        still = λ i m. let r = (took.rest i).0 m in next_other o cs t.lined j a at_head i r.1 ∙ t.still i r.0;
         moved = λ i m. moved_after i m (equal_or_not i j);
-        no_more = less_le (fewer_next o d heads ends t.lined j taken_small taken_less) t.no_more;
-        fewer = λ _. lt_of_lt_of_le (fewer_next o d heads ends t.lined j taken_small taken_less) t.no_more;
+        no_more = less_le (fewer_next o cs t.lined j a at_head) t.no_more;
+        fewer = λ _. lt_of_lt_of_le (fewer_next o cs t.lined j a at_head) t.no_more;
       }
     where
-      shown_before : Shown o (rest_in d next ends) (λ i. member left i ≡ false) waiting ready
+      shown_before : Shown o (rest_in next) (λ i. member left i ≡ false) waiting ready
       shown_before =
           shown_as {Has = λ i. member left i ≡ false} (λ i b. (
-            λ k. (k.0, (k.1.0, next_other o d heads ends t.lined j taken_small taken_less i (other_than i k.0) ∙ k.1.1)),
-            λ k. (k.0, (k.1.0, sym (next_other o d heads ends t.lined j taken_small taken_less i (other_than i k.0)) ∙ k.1.1)),
+            λ k. (k.0, (k.1.0, next_other o cs t.lined j a at_head i (other_than i k.0) ∙ k.1.1)),
+            λ k. (k.0, (k.1.0, sym (next_other o cs t.lined j a at_head i (other_than i k.0)) ∙ k.1.1)),
           )) t.shown
 
       into : (i : ℕ) → (i ≡ j) ⊎ (member left i ≡ false) → member after i ≡ false
@@ -121,36 +116,34 @@ module _ (o d : List ℕ) (a : ℕ) (heads₀ ends heads waiting : List ℕ) (re
       from i n (inl e) = inl e
       from i n (inr d) = inr (left_not i d n)
 
-      shown_after : Shown o (rest_in d next ends) (λ i. member after i ≡ false) waiting' ready'
+      shown_after : Shown o (rest_in next) (λ i. member after i ≡ false) waiting' ready'
       shown_after =
           shown_as {Has = λ i. (i ≡ j) ⊎ (member left i ≡ false)} (λ i b. (
             λ k. (into i k.0, k.1),
             λ k. (from i k.0 (equal_or_not i j), k.1),
           ))
-          (shown_more o (rest_in d next ends) (λ i. member left i ≡ false) j waiting ready waiting' ready' (λ n. not_both took.own n)
+          (shown_more o (rest_in next) (λ i. member left i ≡ false) j waiting ready waiting' ready' (λ n. not_both took.own n)
           (taken_lined.own j) shown_before
           (subst (λ (l : List ℕ). ShowsFirst l j o waiting ready waiting' ready')
-          (sym (next_part o d heads ends t.lined j taken_small taken_less)) f))
+          (sym (next_part o cs t.lined j a at_head)) f))
 
       moved_after : (i : ℕ) → member after i ≡ false → (i ≡ j) ⊎ (i ≢ j)
-          → rest_in d next ends i ≡ cond (participates o i a) (drop 1 (rest_in d heads₀ ends i)) (rest_in d heads₀ ends i)
+          → rest_in next i ≡ cond (participates o i a) (drop 1 (rest_in cs₀ i)) (rest_in cs₀ i)
       moved_after i n (inl e) =
-          subst (λ (k : ℕ). rest_in d next ends k ≡ cond (participates o k a) (drop 1 (rest_in d heads₀ ends k)) (rest_in d heads₀ ends k)) (sym e)
-          (ap (drop 1) (sym (next_here o d heads ends t.lined j taken_small taken_less)) ∙ ap (drop 1) (t.still j took.own)
-          ∙ sym (ap (λ (u : Bool). cond u (drop 1 (rest_in d heads₀ ends j)) (rest_in d heads₀ ends j)) (t.own j took.own)))
+          subst (λ (k : ℕ). rest_in next k ≡ cond (participates o k a) (drop 1 (rest_in cs₀ k)) (rest_in cs₀ k)) (sym e)
+          (next_part o cs t.lined j a at_head ∙ ap (drop 1) (t.still j took.own)
+          ∙ sym (ap (λ (u : Bool). cond u (drop 1 (rest_in cs₀ j)) (rest_in cs₀ j)) (t.own j took.own)))
       moved_after i n (inr d≢) =
-          next_other o d heads ends t.lined j taken_small taken_less i d≢ ∙ t.moved i (left_not i d≢ n)
+          next_other o cs t.lined j a at_head i d≢ ∙ t.moved i (left_not i d≢ n)
 
 -- after the last component
-pub taken_all : (o d : List ℕ) (a : ℕ) (heads₀ ends heads waiting : List ℕ) (ready left : ℕ) → left ≡ 0
-    → TakenBut o d a heads₀ ends heads waiting ready left → ActionTaken o d a heads₀ ends heads waiting ready
-taken_all o d a heads₀ ends heads waiting ready left e t =
+pub taken_all : (o : List ℕ) (a : ℕ) (cs₀ cs : List (List ℕ)) (waiting : List ℕ) (ready left : ℕ) → left ≡ 0
+    → TakenBut o a cs₀ cs waiting ready left → TakenShown o a cs₀ cs waiting ready
+taken_all o a cs₀ cs waiting ready left e t =
     record {
       lined = t.lined;
       shown = shown_as {Has = λ i. member left i ≡ false} (λ i b. (λ k. (tt, k.1), λ k. (none i, k.1))) t.shown;
-      was_head = t.was_head;
-      taken = λ i. t.moved i (none i);
-      fewer = t.fewer (λ q. t.some (sym q ∙ e));
+      taken = record { was_head = t.was_head; taken = λ i. t.moved i (none i); fewer = t.fewer (λ q. t.some (sym q ∙ e)) };
     }
   where
     none : (i : ℕ) → member left i ≡ false

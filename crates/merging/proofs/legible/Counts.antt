@@ -1,20 +1,19 @@
--- V2, R18: columns in bytes: how many bytes they have, one column more behind others, a column read where it stands, and the first of
--- some columns found again in their bytes.
+-- V2, R18: columns in bytes: how many bytes they have, one column more behind others, and the column that some bytes begin with, found again
+-- in them: its labels, and what is behind it.
 -- Assumes nothing.
-use mathlib.Core.Path.{◌≡◌, refl, sym, ap, ap₂, ◌∙◌, subst}
-use mathlib.Core.Bool.{true}
-use mathlib.Core.List.{List, [], ◌∷◌, ◌++◌, map, map-append, append_assoc, append-nil, Memᴰ}
-use Prim.Native.Nat.{ℕ, ◌+◌, ◌-◌, ◌*◌, ◌^◌, ◌≤◌, ◌<◌}
+use mathlib.Core.Path.{◌≡◌, refl, sym, ap, ap₂, ◌∙◌}
+use mathlib.Core.List.{List, [], ◌∷◌, ◌++◌, map, map-append, append_assoc, append-nil}
+use Prim.Native.Nat.{ℕ, ◌+◌, ◌*◌, ◌^◌, ◌≤◌, ◌<◌}
 use native.Mathlib.Omega.{arith}
-use lib.ListN.{length, take, drop, length-append, length-drop}
-use lib.Seq.{take_at, drop_at, take-add, drop-drop, length-take-le}
+use lib.ListN.{length, take, drop, length-append}
+use lib.Seq.{take_at, drop_at, length-take-le}
+use Rattle.std.proofs.lemmas.List.{take-append-drop}
 use Rattle.sets.specs.Lists.{append_all}
-use Rattle.sets.specs.Bits.{member}
-use Rattle.sets.proofs.Lists.{append_all_append, each_element}
+use Rattle.sets.proofs.Lists.{append_all_append}
 use Rattle.sheet.specs.Numbers.{AreBytes, number, bytes, field}
-use Rattle.sheet.proofs.Numbers.{bytes_take, bytes_drop, bytes_number, number_bytes, number_part, length_bytes}
+use Rattle.sheet.proofs.Numbers.{bytes_take, bytes_number, number_bytes, number_part, length_bytes}
 use Rattle.columns.specs.ColumnBytes.{count_size, column_bytes, columns_bytes}
-use Rattle.merging.specs.legible.Reading.{part_of, LabelsOwn, ColumnAt}
+use Rattle.merging.specs.legible.Reading.{BeginsWith}
 
 -- V2: how many bytes columns have: two for each, and one for each label
 pub bytes_length : (cs : List (List ℕ)) → length (columns_bytes cs) ≡ 2 * length cs + length (append_all cs)
@@ -31,85 +30,70 @@ columns_more cs c =
 
 -- ---- a number of k bytes, and as many bytes behind it as it says
 
--- the bytes of the number that stands there
-field_bytes : (k at : ℕ) (d : List ℕ) → AreBytes d → at + k ≤ length d → take k (drop at d) ≡ bytes k (field at k d)
-field_bytes k at d h fits =
-    sym (bytes_number (take k (drop at d)) (bytes_take k (drop at d) (bytes_drop at d h)))
-    ∙ ap₂ (λ (j x : ℕ). bytes j x) (length-take-le k (drop at d) (omega (arith, length-drop at d))) (number_part at k d)
+-- the bytes of the number that stands in front
+front_bytes : (k : ℕ) (d : List ℕ) → AreBytes d → k ≤ length d → take k d ≡ bytes k (field 0 k d)
+front_bytes k d h fits =
+    sym (bytes_number (take k d) (bytes_take k d h)) ∙ ap₂ (λ (j x : ℕ). bytes j x) (length-take-le k d fits) (number_part 0 k d)
 
-counted : (k at count : ℕ) (d : List ℕ) → AreBytes d → field at k d ≡ count → at + k + count ≤ length d
-    → take (at + k + count) d ≡ take at d ++ (bytes k count ++ take count (drop (at + k) d))
-counted k at count d h e fits =
-    take-add (at + k) count d
-    ∙ ap (λ (l : List ℕ). l ++ take count (drop (at + k) d))
-    (take-add at k d ∙ ap (λ (l : List ℕ). take at d ++ l) (field_bytes k at d h (omega arith) ∙ ap (bytes k) e))
-    ∙ append_assoc (take at d) (bytes k count) (take count (drop (at + k) d))
-
--- V2: where a column stands, the bytes up to its end are those before it and its own
-pub column_read : (d : List ℕ) (at alphabet end : ℕ) → AreBytes d → ColumnAt d at alphabet end
-    → take end d ≡ take at d ++ column_bytes (part_of d (at + count_size) end)
-column_read d at alphabet end h s =
-    ap (λ (j : ℕ). take j d) s.size
-    ∙ counted count_size at count d h refl fits
-    ∙ ap₂ (λ (j i : ℕ). take at d ++ (bytes count_size j ++ take i (drop (at + count_size) d))) (sym long) left
+-- the bytes are a count, as many labels, and what is behind them
+column_here : (k : ℕ) (d : List ℕ) → AreBytes d → k ≤ length d → field 0 k d ≤ length (drop k d)
+    → d ≡ (bytes k (length (take (field 0 k d) (drop k d))) ++ take (field 0 k d) (drop k d)) ++ drop (field 0 k d) (drop k d)
+column_here k d h fits inside =
+    sym (take-append-drop k d)
+    ∙ ap₂ (λ (p q : List ℕ). p ++ q) (front_bytes k d h fits ∙ ap (bytes k) (sym long)) (sym (take-append-drop count (drop k d)))
+    ∙ sym (append_assoc (bytes k (length labels)) labels (drop count (drop k d)))
   where
     count : ℕ
-    count = field at count_size d
+    count = field 0 k d
 
-    fits : at + count_size + count ≤ length d
-    fits = let e = s.size in let i = s.inside in omega arith
+    labels : List ℕ
+    labels = take count (drop k d)
 
-    left : count ≡ end - (at + count_size)
-    left = let e = s.size in omega arith
+    long : length labels ≡ count
+    long = length-take-le count (drop k d) inside
 
-    long : length (part_of d (at + count_size) end) ≡ count
-    long = length-take-le (end - (at + count_size)) (drop (at + count_size) d) (omega (arith, length-drop (at + count_size) d)) ∙ sym left
+-- V2: a count, as many labels, and what is behind them are the bytes
+pub column_split : (k : ℕ) (d labels others : List ℕ) → AreBytes d → k ≤ length d → field 0 k d ≤ length (drop k d)
+    → labels ≡ take (field 0 k d) (drop k d) → others ≡ drop (field 0 k d) (drop k d) → d ≡ (bytes k (length labels) ++ labels) ++ others
+column_split k d labels others h fits inside e f =
+    column_here k d h fits inside ∙ sym (ap₂ (λ (l o : List ℕ). (bytes k (length l) ++ l) ++ o) e f)
 
--- ---- bytes that begin with a column: its count, its labels and what is behind it are found again
-module _ (k : ℕ) (d c rest : List ℕ) (at : ℕ) (e : drop at d ≡ (bytes k (length c) ++ c) ++ rest) where
-  begun : drop at d ≡ bytes k (length c) ++ (c ++ rest)
-  begun = e ∙ append_assoc (bytes k (length c)) c rest
+-- such a count, its labels and what is behind them are found again
+module _ (k : ℕ) (d c behind : List ℕ) (e : d ≡ (bytes k (length c) ++ c) ++ behind) (few : length c < 256 ^ k) where
+  begun : d ≡ bytes k (length c) ++ (c ++ behind)
+  begun = e ∙ append_assoc (bytes k (length c)) c behind
 
-  first_count : length c < 256 ^ k → field at k d ≡ length c
-  first_count h =
-      sym (number_part at k d)
+  first_count : field 0 k d ≡ length c
+  first_count =
+      sym (number_part 0 k d)
       ∙ ap (λ (l : List ℕ). number (take k l)) begun
-      ∙ ap number (take_at (bytes k (length c)) (c ++ rest) k (length_bytes k (length c)))
-      ∙ number_bytes k (length c) h
+      ∙ ap number (take_at (bytes k (length c)) (c ++ behind) k (length_bytes k (length c)))
+      ∙ number_bytes k (length c) few
 
-  first_labels : drop (at + k) d ≡ c ++ rest
-  first_labels = sym (drop-drop k at d) ∙ ap (drop k) begun ∙ drop_at (bytes k (length c)) (c ++ rest) k (length_bytes k (length c))
+  first_rest : drop k d ≡ c ++ behind
+  first_rest = ap (drop k) begun ∙ drop_at (bytes k (length c)) (c ++ behind) k (length_bytes k (length c))
 
-  first_inside : 0 < k → at + k + length c ≤ length d
-  first_inside some =
-      let l = ap length begun ∙ length-append (bytes k (length c)) (c ++ rest) in
-      omega (arith, length-drop at d, length_bytes k (length c), length-append c rest)
+  first_inside : k + field 0 k d ≤ length d
+  first_inside =
+      let l = ap length begun ∙ length-append (bytes k (length c)) (c ++ behind) in
+      omega (arith, first_count, length_bytes k (length c), length-append c behind)
 
-  first_part : part_of d (at + k) (at + k + length c) ≡ c
-  first_part =
-      let n : at + k + length c - (at + k) ≡ length c = omega arith in
-      ap₂ (λ (j : ℕ) (l : List ℕ). take j l) n first_labels ∙ take_at c rest (length c) refl
+  first_labels : c ≡ take (field 0 k d) (drop k d)
+  first_labels = sym (ap₂ (λ (j : ℕ) (l : List ℕ). take j l) first_count first_rest ∙ take_at c behind (length c) refl)
 
-  first_behind : (end : ℕ) → end ≡ at + k + length c → drop end d ≡ rest
-  first_behind end f =
-      ap (λ (j : ℕ). drop j d) f
-      ∙ sym (drop-drop (length c) (at + k) d)
-      ∙ ap (drop (length c)) first_labels
-      ∙ drop_at c rest (length c) refl
+  first_behind : behind ≡ drop (field 0 k d) (drop k d)
+  first_behind = sym (ap₂ (λ (j : ℕ) (l : List ℕ). drop j l) first_count first_rest ∙ drop_at c behind (length c) refl)
 
--- R18: such a column stands there, where the alphabet has its labels; and behind the end of a column that stands there is the rest
-module _ (d c rest : List ℕ) (at alphabet : ℕ) (e : drop at d ≡ column_bytes c ++ rest) (few : length c < 256 ^ count_size) where
-  pub column_first : ((a : ℕ) → Memᴰ a c → member alphabet a ≡ true) → ColumnAt d at alphabet (at + count_size + length c)
-  column_first own =
-      record {
-        size = ap (λ (j : ℕ). at + count_size + j) (sym (first_count count_size d c rest at e few));
-        inside = first_inside count_size d c rest at e (omega arith);
-        own =
-            subst (LabelsOwn alphabet) (sym (first_part count_size d c rest at e))
-            ((each_element (λ a. member alphabet a ≡ true) c 0).1 own);
-      }
+-- R18, V2: of the column that the bytes begin with
+module _ {d : List ℕ} {alphabet : ℕ} {labels behind : List ℕ} (B : BeginsWith d alphabet labels behind) where
+  -- R18: it lies inside of them
+  pub begins_inside : count_size + field 0 count_size d ≤ length d
+  begins_inside = first_inside count_size d labels behind B.split B.few
 
-  -- V2: what stands behind the first column
-  pub column_behind : (end : ℕ) → ColumnAt d at alphabet end → drop end d ≡ rest
-  column_behind end s =
-      first_behind count_size d c rest at e end (s.size ∙ ap (λ (j : ℕ). at + count_size + j) (first_count count_size d c rest at e few))
+  -- V2: its labels
+  pub begins_labels : labels ≡ take (field 0 count_size d) (drop count_size d)
+  begins_labels = first_labels count_size d labels behind B.split B.few
+
+  -- V2: what is behind it
+  pub begins_behind : behind ≡ drop (field 0 count_size d) (drop count_size d)
+  begins_behind = first_behind count_size d labels behind B.split B.few

@@ -7,52 +7,49 @@ use mathlib.Core.List.{List, [], ◌∷◌, ◌++◌, map, map-append, append-ni
 use Prim.Native.Nat.{ℕ, ◌+◌, ◌*◌, ◌≤◌, ◌<◌}
 use native.Mathlib.Omega.{arith}
 use lib.Dec.{eqb}
-use lib.ListN.{length, drop, get_or, length-append, length-map}
+use lib.ListN.{length, take, drop, get_or, length-append, length-map}
+use lib.Seq.{take_at}
 use Rattle.sets.specs.Lists.{append_all, over}
 use Rattle.sets.specs.Bits.{member, with}
-use Rattle.sets.proofs.Bools.{not_both, iff_bool}
-use Rattle.sets.proofs.Lists.{append_all_append}
+use Rattle.sets.proofs.Bools.{iff_bool}
+use Rattle.sets.proofs.Lists.{append_all_append, entry_short}
 use Rattle.sets.proofs.Members.{member_zero, member_one, member_with, member_ext, member_some}
 use Rattle.systems.specs.Tables.{Tables, InOrder}
 use Rattle.sheet.specs.Bounds.{step_size, most_actions, most_steps}
 use Rattle.sheet.specs.Numbers.{bytes}
 use Rattle.sheet.specs.Writing.{step_bytes}
 use Rattle.sheet.proofs.Numbers.{length_numbers}
-use Rattle.columns.specs.Merging.{single, Merged, HeadedBy}
+use Rattle.columns.specs.Merging.{single, Merged}
 use Rattle.columns.proofs.Merging.{merged_none, merged_more}
 use Rattle.dependence.specs.participants.Participants.{participates, Participants}
 use Rattle.merging.specs.legible.Reading.{rest_in}
-use Rattle.merging.specs.heads.Heads.{Lined, labels_left, Shown, Everywhere, ReadyTaken}
+use Rattle.merging.specs.heads.Heads.{labels_left, NoneReady, ReadyTaken}
 use Rattle.merging.specs.merge.Merging.{MergedInto}
-use Rattle.merging.proofs.heads.Showing.{head_mem}
 
 -- the word so far, and what is left of the columns
-pub record MergedSoFar (o d heads₀ ends section₀ heads section waiting : List ℕ) (ready k : ℕ) : Type 0 where
+pub record MergedSoFar (o : List ℕ) (cs₀ cs : List (List ℕ)) (section₀ section : List ℕ) (k : ℕ) : Type 0 where
   pub word : List ℕ
   pub counted : length word ≡ k
   pub written : section ≡ over (step_bytes (map single word)) section₀
   pub size : length section ≡ length section₀
-  pub lined : Lined o d heads ends
-  pub shown : Shown o (rest_in d heads ends) Everywhere waiting ready
-  pub merged : (T : Tables) → InOrder T → Participants T o → Merged T (rest_in d heads₀ ends) word (rest_in d heads ends)
-  pub few : k + labels_left heads ends ≤ labels_left heads₀ ends
+  pub columns : length cs ≡ length cs₀
+  pub merged : (T : Tables) → InOrder T → Participants T o → Merged T (rest_in cs₀) word (rest_in cs)
+  pub few : k + labels_left cs ≤ labels_left cs₀
 
 at_first : (x : ℕ) → 0 + x ≤ x
 at_first x = omega arith
 
 -- no action is taken yet
-pub so_far_none : (o d heads ends section waiting : List ℕ) (ready : ℕ) → Lined o d heads ends
-    → Shown o (rest_in d heads ends) Everywhere waiting ready → MergedSoFar o d heads ends section heads section waiting ready 0
-so_far_none o d heads ends section waiting ready lined shown =
+pub so_far_none : (o : List ℕ) (cs : List (List ℕ)) (section : List ℕ) → MergedSoFar o cs cs section section 0
+so_far_none o cs section =
     record {
       word = [];
       counted = refl;
       written = refl;
       size = refl;
-      lined = lined;
-      shown = shown;
-      merged = λ T ok p. merged_none T (rest_in d heads ends);
-      few = at_first (labels_left heads ends);
+      columns = refl;
+      merged = λ T ok p. merged_none T (rest_in cs);
+      few = at_first (labels_left cs);
     }
 
 -- ---- a step of one action
@@ -91,26 +88,24 @@ module _ (T : Tables) (o : List ℕ) (p : Participants T o) (a : ℕ) (below : a
       let h = (p.each a below m.0).0 m.1 in
       ok.action_below m.0 h.0 a h.1
 
-module _ (o d heads₀ ends section₀ heads section waiting : List ℕ) (ready k a : ℕ)
-    (m : MergedSoFar o d heads₀ ends section₀ heads section waiting ready k)
-    (heads' waiting' : List ℕ) (ready' : ℕ) (t : ReadyTaken o d heads ends a heads' waiting' ready') where
+module _ (o : List ℕ) (cs₀ cs : List (List ℕ)) (section₀ section : List ℕ) (k a : ℕ) (m : MergedSoFar o cs₀ cs section₀ section k)
+    (cs' : List (List ℕ)) (t : ReadyTaken o a cs cs') where
   -- there is room for its step (L6)
-  pub taken_room : labels_left heads₀ ends ≤ most_steps → k < most_steps
+  pub taken_room : labels_left cs₀ ≤ most_steps → k < most_steps
   taken_room = room m.few t.taken.fewer
     where
       room : {x y z : ℕ} → k + x ≤ y → z < x → y ≤ most_steps → k < most_steps
       room h l f = omega arith
 
-  pub so_far_more : (section' : List ℕ) → section' ≡ over (step_bytes (map single m.word) ++ bytes step_size (single a)) section₀
-      → length section' ≡ length section₀ → MergedSoFar o d heads₀ ends section₀ heads' section' waiting' ready' (k + 1)
-  so_far_more section' e size =
+  pub so_far_more : length cs' ≡ length cs → (section' : List ℕ) → section' ≡ over (step_bytes (map single m.word) ++ bytes step_size (single a)) section₀
+      → length section' ≡ length section₀ → MergedSoFar o cs₀ cs' section₀ section' (k + 1)
+  so_far_more same section' e size =
       record {
         word = m.word ++ a ∷ [];
         counted = length-append m.word (a ∷ []) ∙ ap (λ (x : ℕ). x + 1) m.counted;
         written = e ∙ ap (λ (l : List ℕ). over l section₀) (sym (steps_more m.word a));
         size = size;
-        lined = t.taken.lined;
-        shown = t.taken.shown;
+        columns = same ∙ m.columns;
         merged = merged_next;
         few = less m.few t.taken.fewer;
       }
@@ -118,38 +113,40 @@ module _ (o d heads₀ ends section₀ heads section waiting : List ℕ) (ready 
       less : {x y z : ℕ} → k + x ≤ y → z < x → (k + 1) + z ≤ y
       less h l = omega arith
 
-      merged_next : (T : Tables) → InOrder T → Participants T o → Merged T (rest_in d heads₀ ends) (m.word ++ a ∷ []) (rest_in d heads' ends)
+      merged_next : (T : Tables) → InOrder T → Participants T o → Merged T (rest_in cs₀) (m.word ++ a ∷ []) (rest_in cs')
       merged_next T ok p =
-          merged_more T (rest_in d heads₀ ends) m.word (rest_in d heads ends) (rest_in d heads' ends) a (m.merged T ok p)
+          merged_more T (rest_in cs₀) m.word (rest_in cs) (rest_in cs') a (m.merged T ok p)
           (known T o p a t.below ok t.some_part)
           (λ j h q. t.taken.was_head j (has_same T o p a t.below j h ∙ q))
           (λ j h. t.taken.taken j
-          ∙ ap (λ (u : Bool). cond u (drop 1 (rest_in d heads ends j)) (rest_in d heads ends j)) (has_same T o p a t.below j h))
+          ∙ ap (λ (u : Bool). cond u (drop 1 (rest_in cs j)) (rest_in cs j)) (has_same T o p a t.below j h))
 
 -- ---- nothing is ready
 
--- no action heads the columns of all of its components
-pub so_far_all : (o d heads₀ ends section₀ heads section waiting : List ℕ) (ready k : ℕ) → ready ≡ 0 → labels_left heads₀ ends ≤ most_steps
-    → MergedSoFar o d heads₀ ends section₀ heads section waiting ready k → MergedInto o d heads₀ ends section₀ heads section k
-so_far_all o d heads₀ ends section₀ heads section waiting ready k e room m =
+-- V3: no action heads the columns of all of its components, and the steps written are those of the section up to their end
+pub so_far_all : (o : List ℕ) (cs₀ cs : List (List ℕ)) (section₀ section : List ℕ) (k : ℕ) → labels_left cs₀ ≤ most_steps
+    → MergedSoFar o cs₀ cs section₀ section k → NoneReady o cs → MergedInto o cs₀ cs (take (step_size * k) section)
+so_far_all o cs₀ cs section₀ section k room m none =
     record {
       word = m.word;
-      counted = m.counted;
-      few = within (labels_left heads ends) m.few room;
-      written = m.written;
-      lined = m.lined;
+      few = within (labels_left cs) m.few room;
+      written =
+          ap (take (step_size * k)) m.written
+          ∙ take_at (step_bytes (map single m.word)) (drop (length (step_bytes (map single m.word))) section₀) (step_size * k)
+          (section_length m.word ∙ ap (λ (x : ℕ). step_size * x) m.counted);
+      size = m.columns;
       merged = m.merged;
-      none_ready = λ a below some all. not_both ((m.shown.told a).1 (below, waiting_all a below all, some))
-          (ap (λ (x : ℕ). member x a) e ∙ member_zero a);
+      none_ready = none;
     }
   where
-    within : (x : ℕ) {y : ℕ} → k + x ≤ y → y ≤ most_steps → k ≤ most_steps
-    within x h f = omega arith
+    within : (x : ℕ) {y : ℕ} → k + x ≤ y → y ≤ most_steps → length m.word ≤ most_steps
+    within x h f = let e = m.counted in omega arith
 
-    waiting_all : (a : ℕ) → a < most_actions → ((j : ℕ) → participates o j a ≡ true → HeadedBy (rest_in d heads ends) j a)
-        → get_or waiting a 0 ≡ get_or o a 0
-    waiting_all a below all =
-        member_ext (get_or waiting a 0) (get_or o a 0) (λ j. iff_bool (member (get_or waiting a 0) j) (member (get_or o a 0) j) (
-          λ q. (m.lined.own j a (head_mem (rest_in d heads ends) j a ((m.shown.waits a below j).0 q).1)).1,
-          λ q. (m.shown.waits a below j).1 (tt, all j q),
-        ))
+-- where no label is left, no action heads a column
+pub none_left : (o : List ℕ) (cs : List (List ℕ)) → labels_left cs ≡ 0 → NoneReady o cs
+none_left o cs e a below some all =
+    let part = member_some (get_or o a 0) some in
+    let head = all part.0 part.1 in
+    let short = entry_short cs part.0 in
+    let long = ap length head.1 in
+    omega arith

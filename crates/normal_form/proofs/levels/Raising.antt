@@ -4,7 +4,7 @@ use mathlib.Core.Path.{◌≡◌, refl, sym, ap, ◌∙◌}
 use mathlib.Core.Bool.{true, false}
 use mathlib.Core.List.{List, [], ◌∷◌, Memᴰ}
 use mathlib.Core.Logic.{◌⊎◌, inl, inr}
-use Prim.Native.Nat.{ℕ, ◌+◌, ◌≤◌, ◌<◌}
+use Prim.Native.Nat.{ℕ, ◌+◌, ◌^◌, ◌≤◌, ◌<◌}
 use native.Mathlib.Omega.{arith}
 use lib.ListN.{get_or}
 use Rattle.sets.specs.Bits.{members}
@@ -33,18 +33,18 @@ largest_room most last (j ∷ js) k h each =
     let rest = largest_room most last js k h (λ i m. each i (Memᴰ.tail m)) in
     omega arith
 
-module _ (o : List ℕ) (fit : OfSixteen o) (a : ℕ) (last : List ℕ) where
-  -- so does the level of an action
-  pub level_room : (most k : ℕ) → Room most last k → largest last (members (get_or o a 0)) + k ≤ most
-  level_room most k room =
-      let few = room 0 (omega arith) in
-      largest_room most last (members (get_or o a 0)) k (omega arith)
-      (λ j m. room j (member_lt most_components (get_or o a 0) j (fit.small a) ((members_mem (get_or o a 0) j).0 m).1))
+-- so does the level of an action with these participants
+pub level_room : {mine : ℕ} → mine < 2 ^ most_components → (last : List ℕ) (most k : ℕ) → Room most last k → largest last (members mine) + k ≤ most
+level_room {mine} small last most k room =
+    let few = room 0 (omega arith) in
+    largest_room most last (members mine) k (omega arith)
+    (λ j m. room j (member_lt most_components mine j small ((members_mem mine j).0 m).1))
 
+module _ (o : List ℕ) (fit : OfSixteen o) (a : ℕ) (last : List ℕ) where
   module _ (last' : List ℕ) (level : ℕ) (taken : LevelTaken (get_or o a 0) last last' level) where
     -- where there is room for one action, the level is one of the steps that there may be
     pub level_below : (most : ℕ) → Room most last 1 → level < most
-    level_below most room = let f = taken.found in let r = level_room most 1 room in omega arith
+    level_below most room = let f = taken.found in let r = level_room (fit.small a) last most 1 room in omega arith
 
     -- one step's room was taken at most
     pub room_left : (most k : ℕ) → Room most last (1 + k) → Room most last' k
@@ -54,7 +54,7 @@ module _ (o : List ℕ) (fit : OfSixteen o) (a : ℕ) (last : List ℕ) where
         go (inl m) =
             let e = taken.raised.has j h m in
             let f = taken.found in
-            let r = level_room most (1 + k) room in
+            let r = level_room (fit.small a) last most (1 + k) room in
             omega arith
         go (inr m) = let e = taken.raised.others j h m in let r = room j h in omega arith
 

@@ -49,7 +49,7 @@ raised_more {left} {low} {rest} level last after fits t M =
         M.others j h ((false_iff (member rest j)).1 (λ m. n (inr m))) ∙ get_or-set_other last low j (level + 1) 0 (λ q. n (inl q))
 
 -- the largest entry, with the first component taken out
-pub largest_more : (last : List ℕ) {left low rest : ℕ} (at next all : ℕ) → Takes left low rest → next ≡ max (get_or last low 0) at
+pub largest_more : (last : List ℕ) {left low rest : ℕ} (at next all : ℕ) → Takes left low rest → next ≡ max at (get_or last low 0)
     → max at (largest last (members left)) ≡ all → max next (largest last (members rest)) ≡ all
 largest_more last at next all t e h = let q = ap (largest last) (taken_first t) in omega arith
 

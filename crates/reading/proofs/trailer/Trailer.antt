@@ -1,46 +1,34 @@
--- What R2 and R3 say of the bytes that stand in the trailer.
+-- What R1 to R3 say of the bytes that stand in the trailer.
 -- Assumes nothing.
 use mathlib.Core.Path.{◌≡◌, refl, sym, ap, ap₂, ◌∙◌}
-use mathlib.Core.Bool.{Bool, true, false, not, ◌&&◌, ◌||◌}
+use mathlib.Core.Bool.{Bool, false, not, ◌&&◌, ◌||◌}
 use mathlib.Core.List.{List, [], ◌∷◌}
-use Prim.Native.Nat.{ℕ, suc, ◌-◌, ◌≤◌}
-use native.Mathlib.Omega.{arith}
+use Prim.Native.Nat.{ℕ, ◌-◌, ◌≤◌}
 use lib.Dec.{eqb}
 use lib.ListN.{length, drop, get_or}
-use lib.Seq.{drop-cons, drop-length}
+use Rattle.std.specs.List.{ends_with}
+use Rattle.std.specs.Cmp.Lexicographic.{pointwise}
+use Rattle.sets.proofs.Bools.{iff_bool, eqb_true}
 use Rattle.sheet.specs.Layout.{component_count, action_count, closing, mark}
-use Rattle.sheet.specs.Refusals.{outside, same_numbers, mark_wrong, counts_wrong}
+use Rattle.sheet.specs.Refusals.{outside, same_numbers, length_wrong, mark_wrong, counts_wrong}
+use Rattle.sheet.proofs.Limits.{length_right}
 use Rattle.sheet.proofs.Numbers.{field_one}
 
 -- ---- the closing mark (R2)
 
-either : (p q : Bool) → (not p || not q) ≡ not (p && (q && true))
-either true true = refl
-either true false = refl
-either false q = refl
+flipped : (x y : ℕ) → eqb y x ≡ eqb x y
+flipped x y = iff_bool (eqb y x) (eqb x y) (λ h. (eqb_true x y).1 (sym ((eqb_true y x).0 h)), λ h. (eqb_true y x).1 (sym ((eqb_true x y).0 h)))
 
-module _ (b : List ℕ) (two : 2 ≤ length b) where
-  closing_two : closing b ≡ get_or b (length b - 2) 0 ∷ get_or b (length b - 1) 0 ∷ []
-  unfolding closing
-  closing_two =
-      drop-cons b (length b - 2) 0 (omega arith)
-      ∙ ap (λ (l : List ℕ). get_or b (length b - 2) 0 ∷ l)
-      (ap (λ (i : ℕ). drop i b) next
-      ∙ drop-cons b (length b - 1) 0 (omega arith)
-      ∙ ap (λ (l : List ℕ). get_or b (length b - 1) 0 ∷ l) (ap (λ (i : ℕ). drop i b) last ∙ drop-length b))
-    where
-      next : suc (length b - 2) ≡ length b - 1
-      next = omega arith
+compared : (xs ys : List ℕ) → pointwise eqb ys xs ≡ same_numbers xs ys
+compared [] [] = refl
+compared [] (y ∷ ys) = refl
+compared (x ∷ xs) [] = refl
+compared (x ∷ xs) (y ∷ ys) = ap₂ (λ (p q : Bool). p && q) (flipped x y) (compared xs ys)
 
-      last : suc (length b - 1) ≡ length b
-      last = omega arith
-
-  mark_read : mark_wrong b ≡ not (eqb (get_or b (length b - 2) 0) 0x46 && (eqb (get_or b (length b - 1) 0) 0x53 && true))
-  unfolding mark_wrong
-  mark_read = ap (λ (l : List ℕ). not (same_numbers l mark)) closing_two
-
-  pub mark_tested : (not (eqb (get_or b (length b - 2) 0) 0x46) || not (eqb (get_or b (length b - 1) 0) 0x53)) ≡ mark_wrong b
-  mark_tested = either (eqb (get_or b (length b - 2) 0) 0x46) (eqb (get_or b (length b - 1) 0) 0x53) ∙ sym mark_read
+-- as the library compares the end of a slice
+pub mark_tested : (b : List ℕ) → not (ends_with eqb b mark) ≡ mark_wrong b
+unfolding mark_wrong closing
+mark_tested b = ap not (compared (drop (length b - 2) b) mark)
 
 -- ---- the counts of components and actions (R3, S6)
 
@@ -57,3 +45,9 @@ pub counts_read : (b : List ℕ) (n m : ℕ) → n ≡ get_or b (length b - 4) 0
 unfolding counts_wrong
 counts_read b n m p q =
     ap₂ (λ (i j : ℕ). outside 1 16 i || outside 1 64 j) (components_read b ∙ sym p) (actions_read b ∙ sym q)
+
+-- ---- the length (R1)
+
+-- a sheet that is not too short has a trailer
+pub long_enough : (b : List ℕ) → length_wrong b ≡ false → 26 ≤ length b
+long_enough b e = ((length_right b).0 e).0

@@ -1,12 +1,13 @@
--- How far an array of decoded records is filled.
+-- One record decoded.
 -- Assumes nothing.
-use Rattle.std.specs.Prelude.{◌≡◌, List, ℕ, ◌*◌, ◌≤◌}
-use Rattle.sheet.specs.Layout.{tables_of}
-use Rattle.sheet.specs.Sections.{base_of, Decoded}
+use Rattle.std.specs.Prelude.{◌≡◌, List, ℕ, ◌<◌}
+use Rattle.sheet.specs.declared.Component.{Component}
+use Rattle.sheet.specs.Layout.{states_of, initial_of, alphabet_of}
 
--- the first j of the records in the bytes b are decoded, and the states of the next component begin at `base`, at most 255 for each one
--- before it (S3). The number of actions, 0 here, plays no part.
-pub record DecodedUpTo (b : List ℕ) (j base : ℕ) (l : List ℕ) : Type 0 where
-  pub first : Decoded (tables_of b j 0) j l
-  pub begins : base ≡ base_of (tables_of b j 0) j
-  pub small : base ≤ 255 * j
+-- the record with index j in the bytes b, decoded; the states of its component begin at `base` (S3)
+pub record RecordDecoded (b : List ℕ) (j base : ℕ) (c : Component) : Type 0 where
+  pub states_decoded : c.states ≡ states_of b j
+  pub initial_decoded : c.initial ≡ initial_of b j
+  pub alphabet_decoded : c.alphabet ≡ alphabet_of b j
+  pub begins : c.base ≡ base
+  pub small : c.states < 256

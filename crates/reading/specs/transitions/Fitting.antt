@@ -1,13 +1,12 @@
--- What R7 asks of a transition's component, a byte string as the number by which it is compared (R8), and which of the two is told.
+-- A transition's byte string as the number by which it is compared (R8), and which of R7 and R8 is told.
 -- Assumes nothing.
-use Rattle.std.specs.Prelude.{◌≡◌, Bool, true, false, List, [], ◌∷◌, ℕ, ◌+◌, ◌*◌, ◌<◌}
-use Rattle.systems.specs.Tables.{Tables}
+use Rattle.std.specs.Prelude.{Bool, true, false, Option, Some, None, List, [], ◌∷◌, ℕ, ◌+◌, ◌*◌}
+use Rattle.systems.specs.Tables.{Transition}
+use Rattle.answers.specs.declared.Refusal.{Refusal}
 
--- the number of states and the alphabet of component j of the tables (R7)
-pub record ComponentHas (T : Tables) (j states alphabet : ℕ) : Type 0 where
-  pub known : j < T.components
-  pub states_known : states ≡ T.states j
-  pub alphabet_known : alphabet ≡ T.alphabet j
+-- the four bytes of a transition (S4)
+abbrev pub bytes_of : Transition → List ℕ
+bytes_of t = t.component ∷ t.source ∷ t.label ∷ t.target ∷ []
 
 -- the number x with the bytes of a string behind it, the first of them heaviest (R8)
 abbrev pub heavy_from : ℕ → List ℕ → ℕ
@@ -18,8 +17,8 @@ heavy_from x (d ∷ ds) = heavy_from (256 * x + d) ds
 abbrev pub heavy_first : List ℕ → ℕ
 heavy_first ds = heavy_from 0 ds
 
--- refusal 7 where p holds, else refusal 8 where q does, else 0 (O1, R7, R8)
-abbrev pub seven_or_eight : Bool → Bool → ℕ
-seven_or_eight true q = 7
-seven_or_eight false true = 8
-seven_or_eight false false = 0
+-- refusal 7 where p holds, else refusal 8 where q does, else none (O1, R7, R8)
+abbrev pub seven_or_eight : Bool → Bool → Option Refusal
+seven_or_eight true q = Some Refusal.Transition
+seven_or_eight false true = Some Refusal.Order
+seven_or_eight false false = None

@@ -4,7 +4,7 @@ use mathlib.Core.Path.{◌≡◌, refl, ap, ◌∙◌}
 use mathlib.Core.Bool.{Bool, true, false, not, ◌&&◌}
 use mathlib.Core.List.{List}
 use Prim.Native.Nat.{ℕ, zero, suc, ◌+◌, ◌-◌, ◌*◌, ◌≤◌, ◌<◌}
-use native.Mathlib.Nat.{le_refl, mul-suc, mul-le-mul_left}
+use native.Mathlib.Nat.{le_refl}
 use native.Mathlib.Omega.{arith}
 use lib.Dec.{leb, eqb}
 use lib.ListN.{length, get_or}
@@ -13,12 +13,9 @@ use Rattle.sets.specs.Lists.{any_of, below}
 use Rattle.products.specs.Product.{Component}
 use Rattle.products.specs.ProductBytes.{idle, components_in, rows_in, rows_at, component_at, entry, unless_idle, product_of}
 use Rattle.products.specs.ProductVerdict.{number_out, column_wrong}
-use Rattle.rows.specs.Reading.{BeginsLeft}
+use Rattle.rows.specs.declared.product.Part.{Part}
+use Rattle.rows.specs.Reading.{begin_at, BeginsLeft}
 use Rattle.rows.specs.entries.Rows.{RowsStand}
-
--- the place of a number among the rows
-pub place_inside : (n m g j : ℕ) → g < m → j < n → n * g + j < n * m
-place_inside n m g j l k = let e = mul-suc n g in let h : n * suc g ≤ n * m = mul-le-mul_left n l in omega arith
 
 pub entry_told : (b : List ℕ) (n m g j at : ℕ) → RowsStand b n m → at ≡ rows_at b + n * g + j → get_or b at 0 ≡ entry b g j
 unfolding entry
@@ -66,15 +63,15 @@ count_inside b n m j s l =
     let f = s.length_fits in
     omega arith
 
--- where component j begins, read from the array, and its transition count
+-- where component j begins, read from its part, and its transition count
 pub record BeginTold (b : List ℕ) (j at : ℕ) : Type 0 where
   pub inside : at + 3 ≤ length b
   pub count_told : get_or b (at + 2) 0 ≡ ((product_of b).component j).transitions
 
-pub begin_told : (b begins : List ℕ) (n m j at : ℕ) → RowsStand b n m → BeginsLeft b begins → j < n → at ≡ get_or begins j 0
+pub begin_told : (b : List ℕ) (l : List Part) (n m j at : ℕ) → RowsStand b n m → BeginsLeft b l → j < n → at ≡ begin_at l j
     → BeginTold b j at
 unfolding product_of
-begin_told b begins n m j at s left l e =
+begin_told b parts n m j at s left l e =
     let f : at ≡ component_at b j = e ∙ left.told j (let t = s.n_told in omega arith) in
     let i = count_inside b n m j s l in
     record { inside = omega arith; count_told = ap (λ (k : ℕ). get_or b (k + 2) 0) f }

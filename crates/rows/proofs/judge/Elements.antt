@@ -2,19 +2,19 @@
 -- Assumes nothing.
 use mathlib.Core.Path.{◌≡◌, refl, sym, ap, ap₂, ◌∙◌}
 use mathlib.Core.Bool.{Bool, true, false}
-use mathlib.Core.List.{List, [], ◌∷◌, map, Memᴰ}
-use Prim.Native.Nat.{ℕ, zero, suc, ◌+◌, ◌-◌, ◌<◌, ◌≤◌}
-use native.Mathlib.Nat.{zero-add, sub-zero}
+use mathlib.Core.List.{List, [], ◌∷◌, ◌++◌, map, map-append, append-nil, Memᴰ}
+use Prim.Native.Nat.{ℕ, zero, suc, ◌+◌, ◌≤◌}
 use native.Mathlib.Omega.{arith}
-use lib.ListN.{length, get_or, length-append}
+use lib.ListN.{length, length-append}
 use Rattle.sets.specs.Lists.{append_all, keep, upward, below, RisingAbove, Rising}
 use Rattle.sets.specs.Bits.{members}
-use Rattle.sets.proofs.Lists.{mem_below, above_rising}
+use Rattle.sets.proofs.Lists.{mem_below, above_rising, below_last, append_all_append}
 use Rattle.sets.proofs.Members.{set_of_member, members_set_of}
 use Rattle.products.specs.Product.{Product}
 use Rattle.products.specs.ProductBytes.{components_in, product_of}
 use Rattle.products.specs.ProductSheet.{takes_part, parts_of, alphabet, transitions_of, sheet_transitions}
-use Rattle.rows.specs.Reading.{AlphabetsLeft}
+use Rattle.rows.specs.declared.product.Part.{Part}
+use Rattle.rows.specs.Reading.{alphabet_at, AlphabetsLeft}
 use Rattle.rows.specs.judge.Judging.{elements_of}
 use Rattle.products.proofs.Alphabets.{alphabet_rows}
 use Rattle.products.proofs.Firing.{InRange}
@@ -65,45 +65,38 @@ module _ (P : Product) (j : ℕ) where
       (λ g m. let l = ((alphabet_rows P j g).0 ((set_of_member (parts_of P j (below P.rows)) g).1 m)).0 in omega arith)
 
 -- B9: as many as the sheet has transitions
-pub elements_counted : (b alphabets : List ℕ) (n : ℕ) → InRange (product_of b) → AlphabetsLeft b alphabets → n ≡ components_in b
-    → length (elements_of alphabets n) ≡ length (sheet_transitions (product_of b))
+pub elements_counted : (b : List ℕ) (l : List Part) → InRange (product_of b) → AlphabetsLeft b l
+    → length (elements_of l) ≡ length (sheet_transitions (product_of b))
 unfolding sheet_transitions product_of
-elements_counted b alphabets n ok A e =
-    ap (λ (k : ℕ). length (elements_of alphabets k)) e
-    ∙ same_lengths (λ j. members (get_or alphabets j 0)) (transitions_of (product_of b)) (below (components_in b))
+elements_counted b l ok A =
+    ap (λ (k : ℕ). length (append_all (map (λ j. members (alphabet_at l j)) (below k)))) A.size
+    ∙ same_lengths (λ j. members (alphabet_at l j)) (transitions_of (product_of b)) (below (components_in b))
     (λ j m.
-    let l = (mem_below (components_in b) j).0 m in
-    ap (λ (x : ℕ). length (members x)) (A.told j l)
+    let h = (mem_below (components_in b) j).0 m in
+    ap (λ (x : ℕ). length (members x)) (A.told j h)
     ∙ ap length (alphabet_members (product_of b) j ok.few_rows)
-    ∙ sym (transitions_count (product_of b) ok j l))
+    ∙ sym (transitions_count (product_of b) ok j h))
 
 -- ---- counted one alphabet after another
 
--- the elements of the alphabets from j on
-abbrev pub elements_from : List ℕ → ℕ → ℕ → List ℕ
-elements_from l j k = append_all (map (λ i. members (get_or l i 0)) (upward j k))
+-- the elements of the first n alphabets
+abbrev pub elements_below : List Part → ℕ → List ℕ
+elements_below l n = append_all (map (λ j. members (alphabet_at l j)) (below n))
 
-pub count_start : (l : List ℕ) (n : ℕ) → 0 + length (elements_from l 0 (n - 0)) ≡ length (elements_of l n)
-unfolding below
-count_start l n = zero-add _ ∙ ap (λ (k : ℕ). length (elements_from l 0 k)) (sub-zero n)
+joined_last : (f : ℕ → List ℕ) (j : ℕ) → append_all (map f (below (j + 1))) ≡ append_all (map f (below j)) ++ f j
+joined_last f j =
+    ap (λ (l : List ℕ). append_all (map f l)) (below_last j)
+    ∙ ap append_all (map-append f (below j) (j ∷ []))
+    ∙ append_all_append (map f (below j)) (f j ∷ [])
+    ∙ ap (λ (r : List ℕ). append_all (map f (below j)) ++ r) (append-nil (f j))
 
-from_next : (l : List ℕ) (j k : ℕ) → length (elements_from l j (suc k)) ≡ length (members (get_or l j 0)) + length (elements_from l (suc j) k)
-unfolding upward
-from_next l j k = length-append (members (get_or l j 0)) (elements_from l (suc j) k)
+pub count_none : (l : List Part) → 0 ≡ length (elements_below l 0)
+unfolding below upward
+count_none l = refl
 
-pub count_more : (l : List ℕ) (n j sum more total : ℕ) → j < n → more ≡ length (members (get_or l j 0))
-    → sum + length (elements_from l j (n - j)) ≡ total → sum + more + length (elements_from l (j + 1) (n - (j + 1))) ≡ total
-count_more l n j sum more total h e f =
-    let k = n - (j + 1) in
-    let a : n - j ≡ suc k = omega arith in
-    let s : suc j ≡ j + 1 = omega arith in
-    let first = ap (λ (i : ℕ). length (elements_from l j i)) a ∙ from_next l j k in
-    let next = ap (λ (i : ℕ). length (elements_from l i k)) s in
-    omega arith
-
-pub count_end : (l : List ℕ) (n j sum total : ℕ) → n ≤ j → sum + length (elements_from l j (n - j)) ≡ total → sum ≡ total
-unfolding upward
-count_end l n j sum total h e =
-    let a : n - j ≡ 0 = omega arith in
-    let none : length (elements_from l j (n - j)) ≡ 0 = ap (λ (k : ℕ). length (elements_from l j k)) a in
-    omega arith
+pub count_more : (l : List Part) (j sum more : ℕ) → sum ≡ length (elements_below l j) → more ≡ length (members (alphabet_at l j))
+    → sum + more ≡ length (elements_below l (j + 1))
+count_more l j sum more e f =
+    ap₂ (λ (x y : ℕ). x + y) e f
+    ∙ sym (length-append (elements_below l j) (members (alphabet_at l j)))
+    ∙ ap length (sym (joined_last (λ i. members (alphabet_at l i)) j))

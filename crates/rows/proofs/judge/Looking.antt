@@ -16,8 +16,9 @@ use Rattle.products.specs.Product.{Component}
 use Rattle.products.specs.ProductBytes.{components_in, rows_in, component_at, rows_at, product_of}
 use Rattle.products.specs.ProductRefusals.{WellFormed}
 use Rattle.products.specs.ProductVerdict.{number_out, column_wrong, malformed}
+use Rattle.rows.specs.declared.product.Part.{Part}
 use Rattle.rows.specs.Reading.{BeginsLeft}
-use Rattle.rows.specs.components.Reading.{Stands, ComponentsRead}
+use Rattle.rows.specs.components.Reading.{Stands, AllRead}
 use Rattle.rows.specs.entries.Rows.{RowsStand}
 use Rattle.rows.specs.judge.Judging.{CountsFit}
 use Rattle.products.proofs.Refusals.{malformed_exact}
@@ -25,35 +26,33 @@ use Rattle.rows.proofs.entries.Columns.{begins_rise}
 
 -- ---- the counts
 
-pub counts_short : (b : List ℕ) → length b < 2 → ¬ CountsFit b
-counts_short b l f = let h = f.both in omega arith
-
 abbrev counts_out : ℕ → ℕ → Bool
 counts_out n m = ((eqb n 0 || ltb 16 n) || eqb m 0) || ltb 64 m
 
-pub counts_told : (b : List ℕ) → 2 ≤ length b → (counts_out (get_or b 0 0) (get_or b 1 0) ≡ false) ↔ CountsFit b
-unfolding components_in rows_in
-counts_told b l = (
+pub counts_told : (b : List ℕ) (n m : ℕ) → n ≡ components_in b → m ≡ rows_in b → 2 ≤ length b → (counts_out n m ≡ false) ↔ CountsFit b
+counts_told b n m e f l = (
   λ h.
       let rows_high = (or_false _ _).0 h in
       let rows_low = (or_false _ _).0 rows_high.0 in
       let components = (or_false _ _).0 rows_low.0 in
       record {
         both = l;
-        components_low = let z = (eqb_false (get_or b 0 0) 0).0 components.0 in omega arith;
-        components_high = (ltb_false 16 (get_or b 0 0)).0 components.1;
-        rows_low = let z = (eqb_false (get_or b 1 0) 0).0 rows_low.1 in omega arith;
-        rows_high = (ltb_false 64 (get_or b 1 0)).0 rows_high.1;
+        components_low = let z = (eqb_false n 0).0 components.0 in omega arith;
+        components_high = let z = (ltb_false 16 n).0 components.1 in omega arith;
+        rows_low = let z = (eqb_false m 0).0 rows_low.1 in omega arith;
+        rows_high = let z = (ltb_false 64 m).0 rows_high.1 in omega arith;
       },
-  λ f.
-      let n_low = f.components_low in
-      let m-low = f.rows_low in
+  λ g.
+      let n_low = g.components_low in
+      let n_high = g.components_high in
+      let m_low = g.rows_low in
+      let m_high = g.rows_high in
       (or_false _ _).1 (
         (or_false _ _).1 (
-          (or_false _ _).1 ((eqb_false (get_or b 0 0) 0).1 (λ e. omega arith), (ltb_false 16 (get_or b 0 0)).1 f.components_high),
-          (eqb_false (get_or b 1 0) 0).1 (λ e. omega arith),
+          (or_false _ _).1 ((eqb_false n 0).1 (λ q. omega arith), (ltb_false 16 n).1 (omega arith)),
+          (eqb_false m 0).1 (λ q. omega arith),
         ),
-        (ltb_false 64 (get_or b 1 0)).1 f.rows_high,
+        (ltb_false 64 m).1 (omega arith),
       ),
 )
 
@@ -67,11 +66,11 @@ m_read b m e = e
 
 -- ---- what is well_formed passes each look
 
-ill_formed : (b : List ℕ) → ¬ WellFormed b → true ≡ malformed b
+ill_formed : (b : List ℕ) → ¬ WellFormed b → malformed b ≡ true
 ill_formed b h = go (true_or_false (malformed b))
   where
-    go : (malformed b ≡ true) ⊎ (malformed b ≡ false) → true ≡ malformed b
-    go (inl e) = sym e
+    go : (malformed b ≡ true) ⊎ (malformed b ≡ false) → malformed b ≡ true
+    go (inl e) = e
     go (inr e) = absurd (h ((malformed_exact b).0 e))
 
 components_before : (b : List ℕ) → WellFormed b → (j : ℕ) → j ≤ components_in b → component_at b j ≤ length b
@@ -98,7 +97,7 @@ standing : (b : List ℕ) → WellFormed b → (j : ℕ) → j < components_in b
 unfolding component_at product_of
 standing b w j l = record { inside = let i = components_before b w (suc j) l in omega arith; in_range = w.components j l }
 
-pub counts_refuse : (b : List ℕ) → ¬ CountsFit b → true ≡ malformed b
+pub counts_refuse : (b : List ℕ) → ¬ CountsFit b → malformed b ≡ true
 counts_refuse b h = ill_formed b (λ w. h (fitting_counts b w))
 
 -- a number out of range
@@ -106,55 +105,60 @@ out_number : (C : Component) (o : Option ℕ) → number_out C o ≡ true → (t
 out_number C none h = absurd (false≢true h)
 out_number C (some t) h = (t, refl, (leb_true C.transitions t).0 h)
 
--- the counts passed, and the components were looked at
-pub record Read (b begins : List ℕ) (n m end : ℕ) : Type 0 where
+-- the counts passed, and there is a part for each component
+pub record Read (b : List ℕ) (l : List Part) (n m : ℕ) : Type 0 where
   pub fit : CountsFit b
+  pub size : length l ≡ n
   pub n_told : n ≡ components_in b
   pub m_told : m ≡ rows_in b
-  pub components : ComponentsRead b n begins end
 
-module _ {b begins : List ℕ} {n m end : ℕ} (R : Read b begins n m end) where
-  pub components_refuse : end ≡ 0 → true ≡ malformed b
-  components_refuse e =
-      let o = R.components.one_out e in
-      let there : o.0 < components_in b = let l = o.1 in let q = R.n_told in omega arith in
-      ill_formed b (λ w. o.2 (standing b w o.0 there))
+pub read_by : (b : List ℕ) (l : List Part) (n m : ℕ) → length l ≡ n → CountsFit b × (n ≡ components_in b) × (m ≡ rows_in b) → Read b l n m
+read_by b l n m e f = record { fit = f.0; size = e; n_told = f.1; m_told = f.2 }
 
-  pub end_inside : end ≢ 0 → end ≤ length b
+pub components_refuse : {b : List ℕ} {l : List Part} {n m : ℕ} → Read b l n m
+    → (j : ℕ) × (j < length l) × (¬ Stands b (component_at b j)) → malformed b ≡ true
+components_refuse {b} {l} {n} {m} R out =
+    ill_formed b (λ w. out.2 (standing b w out.0 (let h = out.1 in let q = R.n_told in let z = R.size in omega arith)))
+
+-- the components were looked at, and stand
+module _ {b : List ℕ} {l : List Part} {n m end : ℕ} (R : Read b l n m) (A : AllRead b l end) where
+  pub end_inside : end ≤ length b
   unfolding component_at
-  end_inside f =
+  end_inside =
       let low = R.fit.components_low in
       let told = R.n_told in
-      let last = (R.components.all_stand f (n - 1) (omega arith)).inside in
-      let e : n ≡ suc (n - 1) = omega arith in
-      let q : end ≡ component_at b (suc (n - 1)) = R.components.end_told f ∙ ap (component_at b) e in
+      let long = R.size in
+      let last = (A.all_stand (n - 1) (omega arith)).inside in
+      let e : length l ≡ suc (n - 1) = omega arith in
+      let q : end ≡ component_at b (suc (n - 1)) = A.end_told ∙ ap (component_at b) e in
       omega arith
 
-  rows_begin : end ≢ 0 → rows_at b ≡ end
+  rows_begin : rows_at b ≡ end
   unfolding rows_at
-  rows_begin f = ap (component_at b) (sym R.n_told) ∙ sym (R.components.end_told f)
+  rows_begin = ap (component_at b) (sym (R.size ∙ R.n_told)) ∙ sym A.end_told
 
-  pub length_refuse : end ≢ 0 → length b - end ≢ n * m → true ≡ malformed b
-  length_refuse f h =
+  pub length_refuse : length b - end ≢ n * m → malformed b ≡ true
+  length_refuse h =
       ill_formed b (λ w.
       h
       (let long = w.length_fits in
-      let at = rows_begin f in
+      let at = rows_begin in
       let same : components_in b * rows_in b ≡ n * m = sym (ap₂ (λ (x y : ℕ). x * y) R.n_told R.m_told) in
       omega arith))
 
-  pub rows_stand : end ≢ 0 → length b - end ≡ n * m → RowsStand b n m
-  rows_stand f e =
+  pub rows_stand : length b - end ≡ n * m → RowsStand b n m
+  rows_stand e =
       record {
         n_told = R.n_told;
         m_told = R.m_told;
         few_components = let h = R.fit.components_high in let q = R.n_told in omega arith;
         few_rows = let h = R.fit.rows_high in let q = R.m_told in omega arith;
-        length_fits = let at = rows_begin f in let i = end_inside f in omega arith;
+        length_fits = let at = rows_begin in let i = end_inside in omega arith;
       }
 
-  pub begins_left : end ≢ 0 → BeginsLeft b begins
-  begins_left f = record { size = R.components.size; told = λ j l. R.components.begins_told f j (let q = R.n_told in omega arith) }
+  pub begins_left : BeginsLeft b l
+  begins_left =
+      record { size = R.size ∙ R.n_told; told = λ j h. A.begins_told j (let q = R.n_told in let z = R.size in omega arith) }
 
   numbers_right : (j : ℕ) → column_wrong (product_of b) j ≡ false → (g t : ℕ) → g < rows_in b → (product_of b).takes g j ≡ some t
       → t < ((product_of b).component j).transitions
@@ -164,25 +168,25 @@ module _ {b begins : List ℕ} {n m end : ℕ} (R : Read b begins n m end) where
       let right = any_of_false (λ i. number_out C ((product_of b).takes i j)) (below (rows_in b)) h ((mem_below (rows_in b) g).1 l) in
       (leb_false C.transitions t).0 (sym (ap (number_out C) e) ∙ right)
 
-  all_right : end ≢ 0 → length b - end ≡ n * m → any_of (column_wrong (product_of b)) (below n) ≡ false → malformed b ≡ false
+  pub numbers_pass : length b - end ≡ n * m → any_of (column_wrong (product_of b)) (below n) ≡ false → malformed b ≡ false
   unfolding product_of
-  all_right f e right =
+  numbers_pass e right =
       (malformed_exact b).1
       (record {
         components_low = R.fit.components_low;
         components_high = R.fit.components_high;
         rows_low = R.fit.rows_low;
         rows_high = R.fit.rows_high;
-        length_fits = (rows_stand f e).length_fits ∙ ap₂ (λ (x y : ℕ). rows_at b + x * y) R.n_told R.m_told;
-        components = λ j l. (R.components.all_stand f j (let q = R.n_told in omega arith)).in_range;
+        length_fits = (rows_stand e).length_fits ∙ ap₂ (λ (x y : ℕ). rows_at b + x * y) R.n_told R.m_told;
+        components = λ j l. (A.all_stand j (let q = R.n_told in let z = R.size in omega arith)).in_range;
         numbers = λ g j t l k q.
             let there : j < n = let o = R.n_told in omega arith in
             numbers_right j (any_of_false (column_wrong (product_of b)) (below n) right ((mem_below n j).1 there)) g t l q;
       })
 
-  one_wrong : any_of (column_wrong (product_of b)) (below n) ≡ true → true ≡ malformed b
+  pub numbers_refuse : any_of (column_wrong (product_of b)) (below n) ≡ true → malformed b ≡ true
   unfolding product_of
-  one_wrong h =
+  numbers_refuse h =
       let column = (some_below (column_wrong (product_of b)) n).0 h in
       let j = column.0 in
       let C = (product_of b).component j in
@@ -190,7 +194,3 @@ module _ {b begins : List ℕ} {n m end : ℕ} (R : Read b begins n m end) where
       let out = out_number C ((product_of b).takes row.0 j) row.2 in
       let inside : j < components_in b = let k = column.1 in let q = R.n_told in omega arith in
       ill_formed b (λ w. let l = w.numbers row.0 j out.0 row.1 inside out.1 in let k = out.2 in omega arith)
-
-  pub numbers_told : (r : Bool) → end ≢ 0 → length b - end ≡ n * m → r ≡ any_of (column_wrong (product_of b)) (below n) → r ≡ malformed b
-  numbers_told true f e h = one_wrong (sym h)
-  numbers_told false f e h = sym (all_right f e (sym h))

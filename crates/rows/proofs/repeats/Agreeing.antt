@@ -19,19 +19,19 @@ use Rattle.rows.specs.repeats.Earlier.{AgreeOn, EarlierAgree}
 
 -- the rows before g are compared in component j, and stand in the table by their numbers; the others are still to be compared
 pub record Compared (b : List ℕ) (m j g : ℕ) (same seen : List ℕ) : Type 0 where
-  pub size : length same ≡ 64
+  pub size : length same ≡ m
   pub done : (i h : ℕ) → i < g → (member (get_or same i 0) h ≡ true) ↔ ((h < i) × AgreeOn b (j + 1) i h)
   pub left : (i h : ℕ) → g ≤ i → i < m → (member (get_or same i 0) h ≡ true) ↔ ((h < i) × AgreeOn b j i h)
   pub wide : length seen ≡ 256
   pub table : (x h : ℕ) → x < 256 → (member (get_or seen x 0) h ≡ true) ↔ ((h < g) × (entry b h j ≡ x))
 
-pub compared_none : (b : List ℕ) (m j : ℕ) (same seen : List ℕ) → EarlierAgree b m j same → seen ≡ replicate 256 0
+pub compared_none : (b : List ℕ) (m j : ℕ) (same seen : List ℕ) → length same ≡ m → EarlierAgree b j same → seen ≡ replicate 256 0
     → Compared b m j 0 same seen
-compared_none b m j same seen E e =
+compared_none b m j same seen f E e =
     record {
-      size = E.size;
+      size = f;
       done = λ i h l. absurd (omega arith);
-      left = λ i h k l. E.exact i h l;
+      left = λ i h k l. E.exact i h (omega arith);
       wide = ap length e ∙ length-replicate {A = ℕ} 256 0;
       table = λ x h l. (
         λ t. absurd (not_both t (ap (λ (y : ℕ). member y h) (blank x l) ∙ member_zero h)),
@@ -135,5 +135,5 @@ module _ (b : List ℕ) (m j g x : ℕ) (same seen : List ℕ) (C : Compared b m
       done i h (inl q) = rw q (rw (get_or-set_same same g kept 0 (let z = C.size in omega arith)) (kept_exact h))
       done i h (inr k) = rw (get_or-set_other same g i kept 0 (λ q. absurd (omega arith))) (C.done i h k)
 
-pub compared_all : (b : List ℕ) (m j g : ℕ) (same seen : List ℕ) → Compared b m j g same seen → m ≤ g → EarlierAgree b m (j + 1) same
-compared_all b m j g same seen C k = record { size = C.size; exact = λ i h l. C.done i h (omega arith) }
+pub compared_all : (b : List ℕ) (m j g : ℕ) (same seen : List ℕ) → Compared b m j g same seen → m ≤ g → EarlierAgree b (j + 1) same
+compared_all b m j g same seen C k = record { exact = λ i h l. C.done i h (let e = C.size in omega arith) }

@@ -7,7 +7,7 @@ use mathlib.Core.List.{List}
 use Prim.Native.Nat.{ℕ, ◌<◌, ◌≤◌}
 use native.Mathlib.Omega.{arith}
 use lib.Dec.{eqb}
-use lib.ListN.{get_or}
+use lib.ListN.{length, get_or}
 use Rattle.sets.specs.Lists.{any_of, below}
 use Rattle.sets.specs.Bits.{member}
 use Rattle.sets.proofs.Bools.{not_both, not_true, false_iff, iff_bool, eqb_true, eqb_false}
@@ -16,6 +16,7 @@ use Rattle.sets.proofs.Members.{member_zero, member_some}
 use Rattle.products.specs.ProductBytes.{idle, components_in, entry, unless_idle, product_of}
 use Rattle.products.specs.ProductVerdict.{same_taken, same_row}
 use Rattle.rows.specs.entries.Rows.{RowsStand}
+use Rattle.rows.proofs.Tests.{any_by_index}
 use Rattle.rows.specs.repeats.Earlier.{AgreeOn, EarlierAgree, some_left, repeats_below}
 
 -- two bytes give the same number, or both idle, exactly when they are equal
@@ -36,31 +37,35 @@ same_row_fact b g h = (
 )
 
 -- a repeated row is left in the sets however many components are compared
-repeated_left : (b : List ℕ) (n m k : ℕ) (same : List ℕ) → RowsStand b n m → EarlierAgree b m k same → k ≤ n → (g : ℕ) → g < m
+repeated_left : (b : List ℕ) (n m k : ℕ) (same : List ℕ) → RowsStand b n m → length same ≡ m → EarlierAgree b k same → k ≤ n → (g : ℕ) → g < m
     → any_of (same_row (product_of b) g) (below g) ≡ true → not (eqb (get_or same g 0) 0) ≡ true
-repeated_left b n m k same s E few g l t =
+repeated_left b n m k same s z E few g l t =
     let r = (some_below (same_row (product_of b) g) g).0 t in
     let h = r.0 in
-    let a = (E.exact g h l).1 (r.1, λ i q. (same_row_fact b g h).0 r.2 i (let e = s.n_told in omega arith)) in
+    let a = (E.exact g h (omega arith)).1 (r.1, λ i q. (same_row_fact b g h).0 r.2 i (let e = s.n_told in omega arith)) in
     (not_true _).1 ((eqb_false (get_or same g 0) 0).1 (λ e. not_both a (ap (λ (x : ℕ). member x h) e ∙ member_zero h)))
 
 -- none is left, and so no row is repeated
-pub none_left : (b : List ℕ) (n m k : ℕ) (same : List ℕ) → RowsStand b n m → EarlierAgree b m k same → k ≤ n → some_left same m ≡ false
+pub none_left : (b : List ℕ) (n m k : ℕ) (same : List ℕ) → RowsStand b n m → length same ≡ m → EarlierAgree b k same → k ≤ n → some_left same ≡ false
     → false ≡ repeats_below (product_of b) m
-none_left b n m k same s E few h =
+none_left b n m k same s z E few h =
     sym ((false_iff _).1 (λ t.
     let r = (some_below (λ g. any_of (same_row (product_of b) g) (below g)) m).0 t in
-    let left = repeated_left b n m k same s E few r.0 r.1 r.2 in
-    not_both ((some_below (λ g. not (eqb (get_or same g 0) 0)) m).1 (r.0, r.1, left)) h))
+    let left = repeated_left b n m k same s z E few r.0 r.1 r.2 in
+    let found = (some_below (λ g. not (eqb (get_or same g 0) 0)) (length same)).1 (r.0, (let l = r.1 in omega arith), left) in
+    not_both (any_by_index (λ x. not (eqb x 0)) 0 same ∙ found) h))
 
 -- all components are compared, and a row is repeated exactly where some row is left
-pub repeats_told : (b : List ℕ) (n m k : ℕ) (same : List ℕ) → RowsStand b n m → EarlierAgree b m k same → k ≤ n → n ≤ k
-    → some_left same m ≡ repeats_below (product_of b) m
-repeats_told b n m k same s E few all = any_same _ _ m (λ g l. iff_bool _ _ (found g l, repeated_left b n m k same s E few g l))
+pub repeats_told : (b : List ℕ) (n m k : ℕ) (same : List ℕ) → RowsStand b n m → length same ≡ m → EarlierAgree b k same → k ≤ n → n ≤ k
+    → some_left same ≡ repeats_below (product_of b) m
+repeats_told b n m k same s z E few all =
+    any_by_index (λ x. not (eqb x 0)) 0 same
+    ∙ ap (λ (i : ℕ). any_of (λ g. not (eqb (get_or same g 0) 0)) (below i)) z
+    ∙ any_same _ _ m (λ g l. iff_bool _ _ (found g l, repeated_left b n m k same s z E few g l))
   where
     found : (g : ℕ) → g < m → not (eqb (get_or same g 0) 0) ≡ true → any_of (same_row (product_of b) g) (below g) ≡ true
     found g l t =
         let r = member_some (get_or same g 0) ((eqb_false (get_or same g 0) 0).0 ((not_true _).0 t)) in
-        let a = (E.exact g r.0 l).0 r.1 in
+        let a = (E.exact g r.0 (omega arith)).0 r.1 in
         let same_all = (same_row_fact b g r.0).1 (λ i q. a.1 i (let e = s.n_told in omega arith)) in
         (some_below (same_row (product_of b) g) g).1 (r.0, a.0, same_all)

@@ -108,6 +108,14 @@ row_written b j q g at T =
     ap (λ (t : ℕ). j ∷ q ∷ g ∷ t ∷ [])
     (T.target_told ∙ ap (target_by ((product_of b).component j)) (sym T.taken))
 
+-- what is to be written for the rows of a list
+abbrev pub text : List ℕ → ℕ → ℕ → List ℕ → List ℕ
+text b j q gs = append_all (map (row_transition (product_of b) j q) gs)
+
+pub next_row : (b : List ℕ) (j q : ℕ) {gs rest : List ℕ} {low : ℕ} → gs ≡ low ∷ rest
+    → text b j q gs ≡ row_transition (product_of b) j q low ++ text b j q rest
+next_row b j q e = ap (text b j q) e
+
 -- of the rows of the set those of `left` are still to be taken
 abbrev pub Within : ℕ → ℕ → Type 0
 Within left rows = (g : ℕ) → member left g ≡ true → member rows g ≡ true

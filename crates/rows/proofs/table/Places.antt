@@ -1,24 +1,24 @@
 -- B8, B9: the places of a product that was read: each component and each of its numbers in the rows stands within the bytes.
 -- Assumes nothing.
-use mathlib.Core.Path.{◌≡◌, refl, sym, ap, ap₂, subst}
+use mathlib.Core.Path.{◌≡◌, refl, sym, ap, ap₂, ◌∙◌, subst}
 use mathlib.Core.Bool.{Bool, true, false}
 use mathlib.Core.List.{List, ◌++◌}
 use mathlib.Core.Option.{some, none-ne-some}
 use Prim.Native.Nat.{ℕ, zero, suc, ◌+◌, ◌-◌, ◌*◌, ◌<◌, ◌≤◌}
-use native.Mathlib.Nat.{le_refl, mul-le-mul, mul-suc}
 use native.Mathlib.Omega.{arith}
 use lib.Dec.{eqb}
 use lib.ListN.{length, get_or}
 use Rattle.sets.specs.Bits.{member, with}
-use Rattle.sheet.specs.Bounds.{most_components, most_actions, most_states}
+use Rattle.sheet.specs.Bounds.{most_actions, most_states}
 use Rattle.sheet.specs.Numbers.{bytes}
-use Rattle.rows.specs.declared.table.Column.{Column}
+use Rattle.rows.specs.declared.product.Part.{Part}
 use Rattle.products.specs.ProductBytes.{components_in, rows_in, component_at, rows_at, idle, entry, unless_idle, product_of}
 use Rattle.products.specs.ProductRefusals.{WellFormed}
 use Rattle.products.specs.ProductSheet.{alphabet, record_bytes}
-use Rattle.products.specs.ProductVerdict.{malformed}
-use Rattle.rows.specs.Reading.{BeginsLeft, AlphabetsLeft}
-use Rattle.rows.specs.table.Columns.{ColumnOf, TransitionAt}
+use Rattle.rows.specs.Reading.{no_part, ReadProduct, ColumnOf}
+use Rattle.rows.specs.entries.Rows.{RowsStand}
+use Rattle.rows.specs.table.Columns.{TransitionAt}
+use Rattle.rows.proofs.table.Upward.{left_from, left_next}
 use Rattle.products.proofs.Alphabets.{alphabet_rows}
 use Rattle.products.proofs.Refusals.{malformed_exact}
 
@@ -54,145 +54,98 @@ pub rows_told : (b : List ℕ) (m : ℕ) → m ≡ rows_in b → (product_of b).
 unfolding product_of
 rows_told b m e = sym e
 
-pub rows_few : (b : List ℕ) → WellFormed b → (product_of b).rows ≤ most_actions
+pub rows_few : (b : List ℕ) (n m : ℕ) → RowsStand b n m → (product_of b).rows ≤ most_actions
 unfolding product_of
-rows_few b w = w.rows_high
-
--- the counts that were read: they are in range, and as many numbers stand in the bytes
-pub record CountsRead (b : List ℕ) (n m : ℕ) : Type 0 where
-  pub components_few : n ≤ most_components
-  pub rows_few : m ≤ most_actions
-  pub numbers_few : n * m ≤ most_components * most_actions
-  pub numbers_inside : n * m ≤ length b
-
-pub counts_read : (b : List ℕ) (n m : ℕ) → malformed b ≡ false → n ≡ components_in b → m ≡ rows_in b → CountsRead b n m
-counts_read b n m e f g =
-    let w = (malformed_exact b).0 e in
-    let same : n * m ≡ components_in b * rows_in b = ap₂ (λ (x y : ℕ). x * y) f g in
-    let few : n ≤ most_components = omega (arith, w.components_high) in
-    let few_rows : m ≤ most_actions = omega (arith, w.rows_high) in
-    record {
-      components_few = few;
-      rows_few = few_rows;
-      numbers_few = mul-le-mul few few_rows;
-      numbers_inside = omega (arith, w.length_fits);
-    }
+rows_few b n m s = let e = s.m_told in let f = s.few_rows in omega arith
 
 -- ---- a component and its numbers in the rows (B9)
-
--- a component is known by where it begins
-pub column_told : (b begins : List ℕ) (n m j : ℕ) → malformed b ≡ false → BeginsLeft b begins → n ≡ components_in b → m ≡ rows_in b → j < n
-    → ColumnOf b (record { j = j; at = get_or begins j 0; first = length b - n * m + j; step = n })
-column_told b begins n m j e begun f g h =
-    let w = (malformed_exact b).0 e in
-    let same : n * m ≡ components_in b * rows_in b = ap₂ (λ (x y : ℕ). x * y) f g in
-    record {
-      well_formed = w;
-      component_below = omega arith;
-      at_told = begun.told j (omega arith);
-      first_told = omega (arith, w.length_fits);
-      step_told = f;
-    }
-
-module _ (b : List ℕ) (c : Column) (C : ColumnOf b c) where
-  pub begin_inside : c.at < length b
-  begin_inside =
-      let e = C.at_told in
-      omega (arith, component_inside b c.j C.component_below, C.well_formed.length_fits)
-
-  -- its states, by its first byte
-  pub states_there : get_or b c.at 0 ≡ ((product_of b).component c.j).states
-  unfolding product_of
-  states_there = ap (λ (k : ℕ). get_or b k 0) C.at_told
-
-  pub states_few : ((product_of b).component c.j).states ≤ most_states
-  states_few = (C.well_formed.components c.j C.component_below).states_high
 
 -- what is not idle is the number itself
 number_taken : (e : ℕ) (b : Bool) {t : ℕ} → unless_idle b e ≡ some t → unless_idle b e ≡ some e
 number_taken e true {t} h = absurd (none-ne-some t h)
 number_taken e false h = refl
 
-module _ (b : List ℕ) (c : Column) (C : ColumnOf b c) (g : ℕ) (part : member (alphabet (product_of b) c.j) g ≡ true) where
-  row_below : g < rows_in b
+-- a component of a product that was read
+pub column_told : (b : List ℕ) (l : List Part) → ReadProduct b l → (j : ℕ) → j < length l → ColumnOf b j (get_or l j no_part)
+column_told b l R j h =
+    let low : j < components_in b = let s = R.begins_left.size in omega arith in
+    record {
+      well_formed = R.well_formed;
+      component_below = low;
+      begin_told = R.begins_left.told j low;
+      alphabet_told = R.alphabets_left.told j low;
+    }
+
+module _ {b : List ℕ} {j : ℕ} {p : Part} (C : ColumnOf b j p) where
+  formed : WellFormed b
+  formed = (malformed_exact b).0 C.well_formed
+
+  -- the bytes that its record is written from stand in the product
+  pub record_inside : p.begin + 3 ≤ length b
+  record_inside = let e = C.begin_told in omega (arith, component_inside b j C.component_below, formed.length_fits)
+
+  pub initial_few : get_or b (p.begin + 1) 0 < most_states
   unfolding product_of
-  row_below = ((alphabet_rows (product_of b) c.j g).0 part).0
+  initial_few =
+      let range = formed.components j C.component_below in
+      rw C.begin_told (omega (arith, range.initial_below, range.states_high))
 
-  same_step : c.step * g ≡ components_in b * g
-  same_step = ap (λ (k : ℕ). k * g) C.step_told
-
-  -- the component's number in row g stands within the bytes
-  pub entry_inside : (c.step * g ≤ most_components * most_actions) × (c.first + c.step * g < length b)
-  entry_inside =
-      let w = C.well_formed in
-      let narrow : c.step ≤ most_components = omega (arith, w.components_high, C.step_told) in
-      let low : g ≤ most_actions = omega (arith, w.rows_high, row_below) in
-      let less : components_in b * suc g ≤ components_in b * rows_in b = mul-le-mul (le_refl (components_in b)) row_below in
-      let place = C.first_told in
-      (mul-le-mul narrow low, omega (arith, w.length_fits, mul-suc (components_in b) g, same_step, C.component_below))
-
-  entry_there : get_or b (c.first + c.step * g) 0 ≡ entry b g c.j
-  unfolding entry
-  entry_there =
-      let at : c.first + c.step * g ≡ rows_at b + components_in b * g + c.j = omega (arith, C.first_told, same_step) in
-      ap (λ (k : ℕ). get_or b k 0) at
-
-  taken : (product_of b).takes g c.j ≡ some (entry b g c.j)
+  -- its states, by its first byte
+  pub states_there : get_or b p.begin 0 ≡ ((product_of b).component j).states
   unfolding product_of
-  taken = number_taken (entry b g c.j) (eqb (entry b g c.j) idle) ((alphabet_rows (product_of b) c.j g).0 part).1.1
+  states_there = ap (λ (k : ℕ). get_or b k 0) C.begin_told
 
-  -- and the transition that it names stands in the component's bytes
-  pub transition_there : (at : ℕ) → at ≡ c.at + 3 + 2 * get_or b (c.first + c.step * g) 0 → TransitionAt b c.j g at
-  unfolding product_of
-  transition_there at e =
-      let w = C.well_formed in
-      let t = entry b g c.j in
-      let begin = C.at_told in
-      let few = w.numbers g c.j t row_below C.component_below taken in
-      let range = w.components c.j C.component_below in
-      let place : at ≡ component_at b c.j + 3 + 2 * t = omega (arith, entry_there) in
-      let next : at + 1 ≡ component_at b c.j + 4 + 2 * t = omega arith in
-      let low = range.source_below t few in
-      record {
-        transition = t;
-        taken = taken;
-        inside = omega (arith, component_inside b c.j C.component_below, w.length_fits);
-        source_told = ap (λ (k : ℕ). get_or b k 0) place;
-        target_told = ap (λ (k : ℕ). get_or b k 0) next;
-        source_few = rw (ap (λ (k : ℕ). get_or b k 0) place) (omega (arith, range.states_high));
-      }
+  pub states_few : ((product_of b).component j).states ≤ most_states
+  states_few = (formed.components j C.component_below).states_high
 
--- ---- what a record is written from (B8)
+  -- B8: its record, from the product's bytes; x is the set of its initial state
+  abbrev pub record_by : ℕ → List ℕ
+  record_by x = bytes 1 (get_or b p.begin 0) ++ (bytes 3 0 ++ (bytes 4 x ++ bytes 8 p.alphabet))
 
--- the bytes that the record of component j is written from stand in the product
-pub record RecordInside (b begins : List ℕ) (j : ℕ) : Type 0 where
-  pub few : j < most_components
-  pub inside : get_or begins j 0 + 3 ≤ length b
-  pub initial_few : get_or b (get_or begins j 0 + 1) 0 < most_states
-
-module _ (b begins : List ℕ) (n j : ℕ) (e : malformed b ≡ false) (begun : BeginsLeft b begins) (f : n ≡ components_in b) (h : j < n) where
-  abbrev at : ℕ
-  at = get_or begins j 0
-
-  pub record_inside : RecordInside b begins j
-  unfolding product_of
-  record_inside =
-      let w = (malformed_exact b).0 e in
-      let low : j < components_in b = omega arith in
-      let told : at ≡ component_at b j = begun.told j low in
-      let range = w.components j low in
-      record {
-        few = omega (arith, w.components_high);
-        inside = omega (arith, component_inside b j low, w.length_fits);
-        initial_few = rw told (omega (arith, range.initial_below, range.states_high));
-      }
-
-  -- B8: the record, from the product's bytes
-  pub record_told : (alphabets : List ℕ) → AlphabetsLeft b alphabets
-      → bytes 1 (get_or b at 0) ++ (bytes 3 0 ++ (bytes 4 (with (get_or b (at + 1) 0) 0) ++ bytes 8 (get_or alphabets j 0)))
-      ≡ record_bytes (product_of b) j
+  record_told : record_by (with (get_or b (p.begin + 1) 0) 0) ≡ record_bytes (product_of b) j
   unfolding record_bytes product_of
-  record_told alphabets left =
-      let low : j < components_in b = omega arith in
+  record_told =
       ap₂ (λ (k x : ℕ). bytes 1 (get_or b k 0) ++ (bytes 3 0 ++ (bytes 4 (with (get_or b (k + 1) 0) 0) ++ bytes 8 x)))
-      (begun.told j low) (left.told j low)
+      C.begin_told C.alphabet_told
+
+  -- what is to be written from component j on
+  pub record_next : (x : ℕ) → x ≡ with (get_or b (p.begin + 1) 0) 0
+      → left_from (record_bytes (product_of b)) (product_of b).components j
+      ≡ record_by x ++ left_from (record_bytes (product_of b)) (product_of b).components (j + 1)
+  record_next x e =
+      let f = record_bytes (product_of b) in
+      let n = (product_of b).components in
+      let k : n ≡ components_in b = components_told b (components_in b) refl in
+      let low = C.component_below in
+      left_next f n j (omega arith)
+      ∙ ap (λ (t : List ℕ). t ++ left_from f n (j + 1)) (sym (ap record_by e ∙ record_told))
+
+  module _ (g : ℕ) (part : member (alphabet (product_of b) j) g ≡ true) where
+    pub row_below : g < rows_in b
+    unfolding product_of
+    row_below = ((alphabet_rows (product_of b) j g).0 part).0
+
+    taken : (product_of b).takes g j ≡ some (entry b g j)
+    unfolding product_of
+    taken = number_taken (entry b g j) (eqb (entry b g j) idle) ((alphabet_rows (product_of b) j g).0 part).1.1
+
+    -- the transition that its number in row g names stands in its bytes
+    pub transition_there : (x at : ℕ) → x ≡ entry b g j → at ≡ p.begin + 3 + 2 * x → TransitionAt b j g at
+    unfolding product_of
+    transition_there x at e f =
+        let w = formed in
+        let t = entry b g j in
+        let begin = C.begin_told in
+        let few = w.numbers g j t row_below C.component_below taken in
+        let range = w.components j C.component_below in
+        let place : at ≡ component_at b j + 3 + 2 * t = omega arith in
+        let next : at + 1 ≡ component_at b j + 4 + 2 * t = omega arith in
+        let low = range.source_below t few in
+        record {
+          transition = t;
+          taken = taken;
+          inside = omega (arith, component_inside b j C.component_below, w.length_fits);
+          source_told = ap (λ (k : ℕ). get_or b k 0) place;
+          target_told = ap (λ (k : ℕ). get_or b k 0) next;
+          source_few = rw (ap (λ (k : ℕ). get_or b k 0) place) (omega (arith, range.states_high));
+        }

@@ -1,9 +1,9 @@
 -- R16: which earlier rows agree with a row, as far as the components compared go.
 -- Assumes nothing.
 use Rattle.std.specs.Prelude.{◌≡◌, ◌↔◌, Bool, true, not, List, ℕ, ◌<◌, eqb, length, get_or}
+use Rattle.std.specs.List.{list_any}
 use Rattle.sets.specs.Lists.{any_of, below}
 use Rattle.sets.specs.Bits.{member, set_of}
-use Rattle.sheet.specs.Bounds.{most_actions}
 use Rattle.products.specs.Product.{Product}
 use Rattle.products.specs.ProductBytes.{entry}
 use Rattle.products.specs.ProductVerdict.{same_row}
@@ -16,14 +16,13 @@ rows_before g = set_of (below g)
 abbrev pub AgreeOn : List ℕ → ℕ → ℕ → ℕ → Type 0
 AgreeOn b k g h = (i : ℕ) → i < k → entry b h i ≡ entry b g i
 
--- the array has, for each of m rows, the set of the rows before it that agree with it for the first k components
-pub record EarlierAgree (b : List ℕ) (m k : ℕ) (same : List ℕ) : Type 0 where
-  pub size : length same ≡ most_actions
-  pub exact : (g h : ℕ) → g < m → (member (get_or same g 0) h ≡ true) ↔ ((h < g) × AgreeOn b k g h)
+-- the list has, for each row, the set of the rows before it that agree with it for the first k components
+pub record EarlierAgree (b : List ℕ) (k : ℕ) (same : List ℕ) : Type 0 where
+  pub exact : (g h : ℕ) → g < length same → (member (get_or same g 0) h ≡ true) ↔ ((h < g) × AgreeOn b k g h)
 
--- one of the first m sets is not empty
-abbrev pub some_left : List ℕ → ℕ → Bool
-some_left same m = any_of (λ g. not (eqb (get_or same g 0) 0)) (below m)
+-- one of the sets is not empty
+abbrev pub some_left : List ℕ → Bool
+some_left same = list_any (λ x. not (eqb x 0)) same
 
 -- R16: one of the first m rows repeats an earlier one
 abbrev pub repeats_below : Product → ℕ → Bool

@@ -1,22 +1,11 @@
--- What the writer of transitions goes by (B9): where a component and its numbers in the rows stand, where the transition of a row stands,
--- and which rows leave which state.
+-- What the writer of transitions goes by (B9): where the transition of a row stands, and which rows leave which state.
 -- Assumes nothing.
 use Rattle.std.specs.Prelude.{◌≡◌, true, ◌↔◌, List, ℕ, ◌+◌, ◌<◌, ◌≤◌, length, get_or}
 use Rattle.std.proofs.Math.Option.{some}
 use Rattle.sets.specs.Bits.{member}
 use Rattle.sheet.specs.Bounds.{most_states}
-use Rattle.rows.specs.declared.table.Column.{Column}
 use Rattle.products.specs.Product.{Product}
-use Rattle.products.specs.ProductBytes.{components_in, component_at, rows_at, product_of}
-use Rattle.products.specs.ProductRefusals.{WellFormed}
-
--- the column of a component of a product that is well formed
-pub record ColumnOf (b : List ℕ) (c : Column) : Type 0 where
-  pub well_formed : WellFormed b
-  pub component_below : c.j < components_in b
-  pub at_told : c.at ≡ component_at b c.j
-  pub first_told : c.first ≡ rows_at b + c.j
-  pub step_told : c.step ≡ components_in b
+use Rattle.products.specs.ProductBytes.{product_of}
 
 -- row g has a transition of component j, and its source and target are the bytes at `at`
 pub record TransitionAt (b : List ℕ) (j g at : ℕ) : Type 0 where

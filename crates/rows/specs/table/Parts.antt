@@ -5,9 +5,9 @@ use Rattle.sets.specs.Lists.{append_all, below, over}
 use Rattle.products.specs.ProductBytes.{product_of}
 use Rattle.products.specs.ProductSheet.{record_bytes, transitions_from, transitions_of, sheet_transitions}
 
--- B8: the records of the first n components
-abbrev pub record_part : List ℕ → ℕ → List ℕ
-record_part b n = append_all (map (record_bytes (product_of b)) (below n))
+-- B8: the records of the components
+abbrev pub record_part : List ℕ → List ℕ
+record_part b = append_all (map (record_bytes (product_of b)) (below (product_of b).components))
 
 -- B9: the transitions of component j that leave the state q
 abbrev pub state_part : List ℕ → ℕ → ℕ → List ℕ

@@ -1,0 +1,12 @@
+-- `verdict::check` meets its contract (O1): the refusal of the trailer, or what judging the sheet answers.
+-- Assumes nothing.
+use Rattle.sheet.specs.Verdict.{accepted, trailer_verdict}
+use Rattle.desk.proofs.verdict.Judging.{refused_told, trailer_stopped, trailer_verdict_fact}
+use Rattle.desk.proofs.verdict.check.Goals as goal
+
+pub returns-in_default : goal.returns-in_default
+returns-in_default c =
+    let b = c.args.sheet.now in
+    let a = c.read_trailer-told.result in
+    let stop = trailer_stopped b a c.in_default.not-Accepted c.read_trailer-told.ensures in
+    refused_told b a (trailer_verdict b accepted) stop (trailer_verdict_fact b a c.in_default.not-Accepted stop)
