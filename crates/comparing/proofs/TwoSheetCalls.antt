@@ -7,10 +7,11 @@ use Prim.Native.Nat.{ℕ}
 use lib.Dec.{ltb}
 use lib.ListN.{length}
 use Rattle.sheet.specs.Refusals.{same_numbers}
+use Rattle.sheet.specs.Verdict.{accepted, trailer_verdict, Accepted}
 use Rattle.answers.specs.declared.Sizes.{Sizes}
 use Rattle.answers.specs.declared.Answer.{Answer}
 use Rattle.answers.specs.Restated.{restated_steps}
-use Rattle.answers.specs.Outcomes.{given, refused, values, one_value, bit, number_of, outcome_of, sizes_of}
+use Rattle.answers.specs.Outcomes.{given, refused, values, one_value, bit, number_of, outcome_of, on_sheet, sizes_of, read_outcome}
 use Rattle.answers.specs.TwoSheets.{of_two}
 use Rattle.answers.specs.SameWork.{same_work}
 use Rattle.answers.specs.Leaner.{winner}
@@ -23,8 +24,9 @@ use Rattle.desk.specs.Left.{Judged}
 use Rattle.desk.specs.declared.verdict.Room.{Room}
 use Rattle.comparing.specs.Both.{SecondJudged}
 use Rattle.desk.proofs.AcceptedFacts.{section_all}
+use Rattle.desk.proofs.verdict.Judging.{refused_told, trailer_stopped, trailer_verdict_fact}
 use Rattle.comparing.specs.Calls.{SameWorkAnswer, WinnerAnswer, LeanerPart}
-use Rattle.comparing.proofs.both.Refusals.{sizes_told, BothPassed, both_passed, first_stops, TwoRefused, refused_two, refused_alike}
+use Rattle.comparing.proofs.both.Refusals.{sizes_told, BothPassed, both_passed, first_stops, second_stops, trailer_stops, TwoRefused, refused_two, refused_alike}
 
 -- the second sheet has fewer restated steps
 abbrev fewer : List ℕ → List ℕ → Bool
@@ -53,6 +55,18 @@ pair_refused {b} {b'} {c} {a} e h j = subst (λ (x : List ℕ). TwoRefused x c a
 -- O6: the refusal of the first sheet
 pub first_refused : {b c : List ℕ} {a : Answer} {room : Room} → NotAccepted a → Judged b a room → TwoRefused b c a
 first_refused {b} {c} {a} h j = refused_two b c a h (first_stops b c a h j.answer_told)
+
+-- O6: the refusal of the first sheet's trailer
+pub first_unread : {b c : List ℕ} {a : Answer} → NotAccepted a → outcome_of a ≡ read_outcome b (trailer_verdict b accepted) → TwoRefused b c a
+first_unread {b} {c} {a} h e =
+    let stop = trailer_stopped b a h e in
+    refused_two b c a h (first_stops b c a h (refused_told b a (trailer_verdict b accepted) stop (trailer_verdict_fact b a h stop)))
+
+-- O6: and of the second's
+pub second_unread : {b b' c : List ℕ} {a : Answer} → b' ≡ b → Accepted b' → NotAccepted a
+    → outcome_of a ≡ on_sheet 1 (trailer_verdict c accepted) (given (sizes_of c)) → TwoRefused b c a
+second_unread {b} {b'} {c} {a} q acc h e =
+    subst (λ (x : List ℕ). TwoRefused x c a) q (refused_two b' c a h (second_stops b' c acc a h (trailer_stops c a h e)))
 
 module _ {b c : List ℕ} {z : Sizes} (p : BothPassed b c z) where
   gives : {A : Type 0} (x : A) → given x ≡ of_two b c x

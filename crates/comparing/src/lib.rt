@@ -1,6 +1,6 @@
 // Two sheets given together: whether they do the same work, and which of them is leaner. Each call takes any bytes and always answers;
 // what it answers is fixed by a definition of crates/answers. Each judges the first sheet, and then the second against it: an answer is taken
-// apart where it is handed back, and the rooms are lent from there.
+// apart where it is handed back, and the rooms are lent from there. The trailer is read before: a sheet that it refuses does not pay for a room.
 #![tactic(auto)]
 
 mod both;
@@ -17,14 +17,22 @@ use desk::verdict::{self, Room};
 pub fn same_work(first: &[u8], second: &[u8]) -> Answer
     ensures { SameWorkAnswer first.now second.now result }
 {
+    let read = reading::read_trailer(first);
+    let Answer::Accepted(passed) = read else {
+        return read;
+    };
     let mut room = Room::new();
-    let answer = verdict::judge(first, &mut room);
+    let answer = verdict::judge_tables(first, passed, &mut room);
     let Answer::Accepted(sizes) = answer else {
         return answer;
     };
     let one = Accepted::of(first, sizes, &room);
+    let read2 = both::told_of_second(reading::read_trailer(second));
+    let Answer::Accepted(passed2) = read2 else {
+        return read2;
+    };
     let mut room2 = Room::new();
-    let answer2 = both::judge_second(&one, second, &mut room2);
+    let answer2 = both::judge_second(&one, second, passed2, &mut room2);
     let Answer::Accepted(sizes2) = answer2 else {
         return answer2;
     };
@@ -36,14 +44,22 @@ pub fn same_work(first: &[u8], second: &[u8]) -> Answer
 pub fn winner(first: &[u8], second: &[u8]) -> Answer
     ensures { WinnerAnswer first.now second.now result }
 {
+    let read = reading::read_trailer(first);
+    let Answer::Accepted(passed) = read else {
+        return read;
+    };
     let mut room = Room::new();
-    let answer = verdict::judge(first, &mut room);
+    let answer = verdict::judge_tables(first, passed, &mut room);
     let Answer::Accepted(sizes) = answer else {
         return answer;
     };
     let one = Accepted::of(first, sizes, &room);
+    let read2 = both::told_of_second(reading::read_trailer(second));
+    let Answer::Accepted(passed2) = read2 else {
+        return read2;
+    };
     let mut room2 = Room::new();
-    let answer2 = both::judge_second(&one, second, &mut room2);
+    let answer2 = both::judge_second(&one, second, passed2, &mut room2);
     let Answer::Accepted(sizes2) = answer2 else {
         return answer2;
     };
@@ -55,14 +71,22 @@ pub fn winner(first: &[u8], second: &[u8]) -> Answer
 pub fn leaner<'a>(first: &'a [u8], second: &'a [u8]) -> &'a [u8]
     ensures { LeanerPart first.now second.now result.now }
 {
+    let read = reading::read_trailer(first);
+    let Answer::Accepted(passed) = read else {
+        return &first[0..0];
+    };
     let mut room = Room::new();
-    let answer = verdict::judge(first, &mut room);
+    let answer = verdict::judge_tables(first, passed, &mut room);
     let Answer::Accepted(sizes) = answer else {
         return &first[0..0];
     };
     let one = Accepted::of(first, sizes, &room);
+    let read2 = both::told_of_second(reading::read_trailer(second));
+    let Answer::Accepted(passed2) = read2 else {
+        return &first[0..0];
+    };
     let mut room2 = Room::new();
-    let answer2 = both::judge_second(&one, second, &mut room2);
+    let answer2 = both::judge_second(&one, second, passed2, &mut room2);
     let Answer::Accepted(sizes2) = answer2 else {
         return &first[0..0];
     };

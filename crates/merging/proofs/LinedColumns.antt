@@ -59,14 +59,19 @@ pub record Found (b : List ℕ) (z : Sizes) (l : List Component) (o d : List ℕ
   pub read : FilledBy d (length l) (alphabet_at l) cs
 
 -- R18: by what the reader answered
-pub found_by : {b : List ℕ} {z : Sizes} {l : List Component} {o d : List ℕ} {cs : List (List ℕ)} (r : Answer) (w : Sizes) → r ≡ Accepted w
-    → AcceptedSheet b z → Decoded (tables b) l → Participants (tables b) o → ColumnsRead d z l cs r → Found b z l o d cs
-found_by {z = z} {l = l} {d = d} {cs = cs} r w e k D P read =
+pub read_by : (b : List ℕ) (z : Sizes) {l : List Component} {d : List ℕ} {cs : List (List ℕ)} (r : Answer) (w : Sizes) → r ≡ Accepted w
+    → Decoded (tables b) l → ColumnsRead d z l cs r → ColumnsIn b d cs
+read_by b z {l = l} {d = d} {cs = cs} r w e D read = filled_in b z d D (subst (ColumnsRead d z l cs) e read).1
+
+-- R18: of columns that some bytes hold
+pub found_by : {b : List ℕ} {z : Sizes} {l : List Component} {o d : List ℕ} {cs : List (List ℕ)}
+    → AcceptedSheet b z → Decoded (tables b) l → Participants (tables b) o → ColumnsIn b d cs → Found b z l o d cs
+found_by {b = b} {z = z} {d = d} k D P held =
     record {
       sheet = k;
       decoded = D;
       participants_told = P;
-      read = (subst (ColumnsRead d z l cs) e read).1;
+      read = in_filled b z d D held;
     }
 
 module _ {b : List ℕ} {z : Sizes} {l : List Component} {o d : List ℕ} {cs : List (List ℕ)} (f : Found b z l o d cs) where

@@ -1,4 +1,5 @@
--- A word of actions, each a step of its own, over the tables of an accepted sheet: run and restated (V3, R19).
+-- A word of actions, each a step of its own, over the tables of an accepted sheet: run and restated (V3, R19); and what is answered of columns
+-- that were read.
 -- Assumes nothing.
 use Rattle.std.specs.Prelude.{◌≡◌, List, map, ℕ, ◌*◌, ◌≤◌, length}
 use Rattle.std.proofs.Math.Option.{none}
@@ -12,7 +13,9 @@ use Rattle.answers.specs.declared.Answer.{Answer}
 use Rattle.answers.specs.Outcomes.{refused, outcome_of}
 use Rattle.answers.specs.Restated.{with_steps}
 use Rattle.desk.specs.Calls.{RestateAnswer}
+use Rattle.columns.specs.ColumnRefusals.{ColumnsIn}
 use Rattle.columns.specs.Merging.{single}
+use Rattle.columns.specs.Calls.{ColumnsAnswer}
 
 -- the section has a word over the actions of the sheet b, each a step of its own (S5); it is not too long (L5, L6)
 pub record WordGiven (b section : List ℕ) : Type 0 where
@@ -30,3 +33,11 @@ pub data WordAnswer (b section out : List ℕ) (r : Answer) (after : List ℕ) :
   -- V3, R13
   runs : first_fault (tables b) (start (tables b)) 0 (steps_in section) ≡ none → RestateAnswer (with_steps b (steps_in section)) out r after
       → WordAnswer b section out r after
+
+-- R18, V2: some bytes hold these columns for the sheet b
+abbrev pub SomeColumns : List ℕ → List (List ℕ) → Type 0
+SomeColumns b cs = (d : List ℕ) × ColumnsIn b d cs
+
+-- V3, R19, R13: what is answered of any bytes that hold these columns
+abbrev pub MergedAnswer : List ℕ → List (List ℕ) → List ℕ → Answer → List ℕ → Type 0
+MergedAnswer b cs out r after = (d : List ℕ) → ColumnsIn b d cs → ColumnsAnswer b d out r after

@@ -13,13 +13,13 @@ use sets::Elements;
 // The columns while they are merged: what is left of each; for each action the components that wait for it, since it heads their columns; and
 // the actions that are ready, for which all of their components wait.
 #[derive(Drop)]
-pub struct Heads<'p, 'l, 'c> {
+pub struct Heads<'p, 'l, 'c, 'w> {
     pub participants: &'p [u64],
     pub left: &'l mut [&'c [u8]],
-    pub waiting: [u64; 64],
+    pub waiting: &'w mut [u64],
     pub ready: u64,
     pub ghost lined: { Lined participants.now (labels_of left.now) },
-    pub ghost shown: { Shown participants.now (rest_in (labels_of left.now)) Everywhere waiting ready } by { Prim.hlevel (props, headed-prop) },
+    pub ghost shown: { Shown participants.now (rest_in (labels_of left.now)) Everywhere waiting.now ready } by { Prim.hlevel (props, headed-prop) },
 }
 
 // The parts of the heads come by themselves here and below: between these calls the facts of the heads do not hold.
@@ -76,7 +76,7 @@ fn take_action(
     ready
 }
 
-impl Heads<'_, '_, '_> {
+impl Heads<'_, '_, '_, '_> {
     // Takes the lowest of the ready actions from the columns of its components, and gives it back.
     pub fn take(&mut self) -> Option<u32>
         ensures participants_kept { self.new.participants.now ≡ self.old.participants.now }
@@ -89,7 +89,7 @@ impl Heads<'_, '_, '_> {
         }
         let mut others = self.ready;
         let a = sets::take_lowest(&mut others);
-        self.ready = take_action(self.participants, a, others, self.left, &mut self.waiting);
+        self.ready = take_action(self.participants, a, others, self.left, self.waiting);
         Some(a)
     }
 }

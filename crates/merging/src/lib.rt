@@ -6,7 +6,8 @@ mod legible;
 mod merge;
 
 ghost use Rattle.columns.specs.Calls.{ColumnsAnswer};
-ghost use Rattle.merging.specs.Words.{WordGiven, WordAnswer};
+ghost use Rattle.merging.specs.legible.Reading.{labels_of};
+ghost use Rattle.merging.specs.Words.{WordGiven, WordAnswer, SomeColumns, MergedAnswer};
 
 use answers::{Answer, Refusal};
 use desk::accepted::Accepted;
@@ -29,6 +30,22 @@ fn restate_word(restatable: &Restatable, section: &[u8], out: &mut [u8]) -> Answ
     restatable.restate_steps(section, out)
 }
 
+// 19 and 13 of columns that were read for an accepted sheet, or the restated sheet that has them. A function of its own, with its arrays in front:
+// beside the reading of the columns they were filled with zeros twice.
+fn merge_read(accepted: &Accepted, left: &mut [&[u8]], out: &mut [u8]) -> Answer
+    requires { SomeColumns accepted.now.sheet.now (labels_of left.old) }
+    ensures { MergedAnswer accepted.now.sheet.now (labels_of left.old) out.old result out.new }
+{
+    let mut participants = [0u64; 64];
+    let mut section = [0u8; 8192];
+    let restatable = Restatable::of(accepted, &mut participants);
+    let steps = merge::merge(restatable.participants, left, &mut section);
+    if heads::some_left(left) {
+        return answers::refuse(Refusal::NoExecution);
+    }
+    restate_word(&restatable, steps, out)
+}
+
 // 18, 19 and 13 of the columns for an accepted sheet, or the restated sheet that has them.
 fn merge_columns(accepted: &Accepted, columns: &[u8], out: &mut [u8]) -> Answer
     ensures { ColumnsAnswer accepted.now.sheet.now columns.now out.old result out.new }
@@ -40,14 +57,7 @@ fn merge_columns(accepted: &Accepted, columns: &[u8], out: &mut [u8]) -> Answer
     let Answer::Accepted(_) = read else {
         return read;
     };
-    let mut participants = [0u64; 64];
-    let restatable = Restatable::of(accepted, &mut participants);
-    let mut section = [0u8; 8192];
-    let steps = merge::merge(restatable.participants, left, &mut section);
-    if heads::some_left(left) {
-        return answers::refuse(Refusal::NoExecution);
-    }
-    restate_word(&restatable, steps, out)
+    merge_read(accepted, left, out)
 }
 
 // V3, O9: restates the execution whose columns are given over the tables of a sheet, and gives how many bytes were written. The refusals

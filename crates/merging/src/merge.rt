@@ -21,7 +21,7 @@ pub fn merge<'s>(participants: &[u64], left: &mut [&[u8]], section: &'s mut [u8]
     let mut heads = Heads {
         participants,
         left,
-        waiting,
+        waiting: &mut waiting,
         ready,
     };
     // There are no more than 1,024 labels, and a turn takes one.

@@ -8,7 +8,8 @@ use Prim.Native.Nat.{ℕ}
 use native.Mathlib.Omega.{arith}
 use Rattle.sets.proofs.Bools.{not_both}
 use Rattle.sheet.specs.Layout.{component_count, action_count, transitions_at, steps_at}
-use Rattle.sheet.specs.Verdict.{Verdict, verdict, Accepted}
+use Rattle.sheet.specs.Verdict.{Verdict, verdict, trailer_verdict, tables_verdict, steps_verdict, Accepted}
+use Rattle.sheet.proofs.Guards.{trailer_guard, guard_stopped}
 use Rattle.answers.specs.declared.Sizes.{Sizes}
 use Rattle.answers.specs.declared.Refusal.{Refusal}
 use Rattle.answers.specs.declared.Answer.{Answer}
@@ -28,13 +29,15 @@ listed z = z.n ∷ z.m ∷ z.t ∷ z.s ∷ []
 
 -- ---- the check of the second sheet (O6, O7)
 
+-- sizes are told of a second sheet as of that sheet alone
+pub second_alone : (c : List ℕ) (z : Sizes) (v : Verdict) → outcome_of (Answer.Accepted z) ≡ on_sheet 1 v (given (sizes_of c))
+    → outcome_of (Answer.Accepted z) ≡ read_outcome c v
+second_alone c z Verdict.accepted h = h
+second_alone c z (Verdict.refused k i) h = let z : ◌≡◌ {A = ℕ} 0 1 = cc in absurd (omega arith)
+
 -- an accepted second sheet tells what the check of it alone tells (N1)
 pub second_sheet : (c : List ℕ) (z : Sizes) → outcome_of (Answer.Accepted z) ≡ on_sheet 1 (verdict c) (given (sizes_of c)) → AcceptedSheet c z
-second_sheet c z e = accepted_sheet c z (go (verdict c) e)
-  where
-    go : (v : Verdict) → outcome_of (Answer.Accepted z) ≡ on_sheet 1 v (given (sizes_of c)) → outcome_of (Answer.Accepted z) ≡ read_outcome c v
-    go Verdict.accepted h = h
-    go (Verdict.refused k i) h = let z : ◌≡◌ {A = ℕ} 0 1 = cc in absurd (omega arith)
+second_sheet c z e = accepted_sheet c z (second_alone c z (verdict c) e)
 
 -- N1: an accepted sheet tells its sizes
 pub sizes_told : (b : List ℕ) (z : Sizes) → AcceptedSheet b z → CheckAnswer b (Answer.Accepted z)
@@ -49,6 +52,21 @@ stays a h sheet (Verdict.refused k i) n m t s e x = e
 stays (Answer.Accepted z) h sheet Verdict.accepted n m t s e x = absurd (h z refl)
 stays (Answer.Given y) h sheet Verdict.accepted n m t s e x = let z : ◌≡◌ {A = ℕ} 0 1 = cc in absurd (omega arith)
 stays (Answer.Refused k i w) h sheet Verdict.accepted n m t s e x = let z : ◌≡◌ {A = ℕ} 0 1 = cc in absurd (omega arith)
+
+-- what the trailer of the second sheet refuses, the check of it refuses (O1)
+pub trailer_stops : (c : List ℕ) (a : Answer) → NotAccepted a → outcome_of a ≡ on_sheet 1 (trailer_verdict c Verdict.accepted) (given (sizes_of c))
+    → outcome_of a ≡ on_sheet 1 (verdict c) (given (sizes_of c))
+unfolding verdict
+trailer_stops c a h e = go (trailer_verdict c Verdict.accepted) refl e
+  where
+    go : (v : Verdict) → trailer_verdict c Verdict.accepted ≡ v → outcome_of a ≡ on_sheet 1 v (given (sizes_of c))
+        → outcome_of a ≡ on_sheet 1 (verdict c) (given (sizes_of c))
+    go (Verdict.refused k i) q f =
+        f ∙ ap (λ (v : Verdict). on_sheet 1 v (given (sizes_of c)))
+        (sym (guard_stopped (trailer_guard c) k i q (tables_verdict c (steps_verdict c))))
+    go Verdict.accepted q f =
+        stays a h 1 Verdict.accepted (component_count c) (action_count c) (transitions_at c) (steps_at c) f
+        (on_sheet 1 (verdict c) (given (sizes_of c)))
 
 module _ (b c : List ℕ) where
   abbrev tables_next : Outcome (List ℕ)

@@ -4,13 +4,28 @@ use mathlib.Core.Path.{ap₂, ◌∙◌}
 use mathlib.Core.List.{List}
 use Prim.Native.Nat.{ℕ}
 use Rattle.sheet.specs.Refusals.{same_numbers}
+use Rattle.sheet.specs.Verdict.{accepted, trailer_verdict}
 use Rattle.answers.specs.Restated.{restated_steps}
 use Rattle.answers.proofs.Told.{bit_from}
-use Rattle.comparing.proofs.TwoSheetCalls.{second_judged, pair_passed, pair_refused, first_refused, work_told, no_work}
+use Rattle.comparing.proofs.TwoSheetCalls.{second_judged, pair_passed, pair_refused, first_refused, first_unread, second_unread, work_told, no_work}
+use Rattle.comparing.proofs.both.Refusals.{second_alone}
 use Rattle.comparing.proofs.same_work.Goals as goal
 
 pub returns-in_default : goal.returns-in_default
-returns-in_default c = no_work (first_refused c.in_default.not-Accepted c.judge-answer.ensures)
+returns-in_default c = no_work (first_unread c.in_default.not-Accepted c.read_trailer-read.ensures)
+
+pub returns-in_default-answer : goal.returns-in_default-answer
+returns-in_default-answer c = no_work (first_refused c.in_default-answer.not-Accepted c.judge_tables-answer.ensures)
+
+pub returns-in_default-read2 : goal.returns-in_default-read2
+returns-in_default-read2 c =
+    no_work (second_unread c.of-one.ensures.0 c.of-one.result.judged.sheet.sheet_accepted c.in_default-read2.not-Accepted
+    (c.told_of_second-read2.ensures _ (trailer_verdict c.args.second.now accepted) c.read_trailer.ensures))
+
+pub judge_second-answer2-requires : goal.judge_second-answer2-requires
+judge_second-answer2-requires c =
+    second_alone c.args.second.now _ (trailer_verdict c.args.second.now accepted)
+    (c.in-Accepted-read2.ensures _ (trailer_verdict c.args.second.now accepted) c.read_trailer.ensures)
 
 pub returns-in_default-answer2 : goal.returns-in_default-answer2
 returns-in_default-answer2 c = no_work (pair_refused c.of-one.ensures.0 c.in_default-answer2.not-Accepted c.judge_second-answer2.ensures)

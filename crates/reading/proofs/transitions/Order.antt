@@ -1,42 +1,20 @@
--- R8: the parts of a transition section are the bytes of its transitions; and byte strings of one length rise as the numbers that they are,
--- the first byte heaviest: none falls behind the one before.
+-- R8: byte strings of one length rise as the numbers that they are, the first byte heaviest; so strings are compared with the one before, one
+-- after another.
 -- Assumes nothing.
 use mathlib.Core.Path.{◌≡◌, refl, sym, ap, ap₂, ◌∙◌}
-use mathlib.Core.Bool.{Bool, true, false, not, ◌&&◌, ◌||◌}
+use mathlib.Core.Bool.{Bool, true, false, not, ◌&&◌, ◌||◌, or_assoc}
 use mathlib.Core.Logic.{inl, inr}
-use mathlib.Core.List.{List, [], ◌∷◌, map}
-use Rattle.std.specs.Prelude.{Option, Some, None}
-use Prim.Native.Nat.{ℕ, zero, suc, ◌+◌, ◌*◌, ◌/◌, ◌<◌, ◌≤◌}
+use mathlib.Core.List.{List, [], ◌∷◌}
+use Prim.Native.Nat.{ℕ, zero, suc, ◌+◌, ◌*◌, ◌<◌}
 use native.Mathlib.Nat.{eq-or-lt_of_le}
 use native.Mathlib.Omega.{arith}
 use borrow.Author.Tests.{lt-ltb, le-ltb, lt-leb, le-leb, eq-eqb, ne_eqb, ltb-true, ltb-false}
 use lib.Dec.{leb, ltb, eqb}
-use lib.ListN.{length, take, drop, length-drop}
-use lib.Seq.{length-take-le}
+use lib.ListN.{length, drop, get_or}
 use Rattle.sets.proofs.Bools.{true_or_false}
-use Rattle.sheet.specs.Numbers.{AreBytes, parts}
-use Rattle.sheet.specs.Layout.{transition_of}
-use Rattle.sheet.specs.Refusals.{less_bytes, rising_from, rising_bytes}
-use Rattle.sheet.specs.Sections.{transitions_in}
-use Rattle.sheet.proofs.Numbers.{bytes_take, bytes_drop}
-use Rattle.reading.specs.transitions.Fitting.{bytes_of, heavy_from, heavy_first}
-
--- ---- the bytes of the transitions (S4)
-
-four_bytes : (p : List ℕ) → length p ≡ 4 → bytes_of (transition_of p) ≡ p
-four_bytes [] h = absurd (omega arith)
-four_bytes (c ∷ []) h = absurd (omega arith)
-four_bytes (c ∷ s ∷ []) h = absurd (omega arith)
-four_bytes (c ∷ s ∷ l ∷ []) h = absurd (omega arith)
-four_bytes (c ∷ s ∷ l ∷ t ∷ []) h = refl
-four_bytes (c ∷ s ∷ l ∷ t ∷ u ∷ b) h = absurd (omega arith)
-
-parts_bytes : (k : ℕ) (b : List ℕ) → 4 * k ≤ length b → map bytes_of (map transition_of (parts 4 k b)) ≡ parts 4 k b
-parts_bytes zero b h = refl
-parts_bytes (suc k) b h =
-    ap₂ (λ (p : List ℕ) (ps : List (List ℕ)). p ∷ ps)
-    (four_bytes (take 4 b) (length-take-le 4 b (omega arith)))
-    (parts_bytes k (drop 4 b) (rw length-drop (omega arith)))
+use Rattle.sheet.specs.Numbers.{AreBytes}
+use Rattle.sheet.specs.Refusals.{less_bytes, rising_bytes}
+use Rattle.reading.specs.transitions.Fitting.{heavy_from, heavy_first}
 
 -- ---- rising
 
@@ -80,17 +58,6 @@ less_from u (d ∷ x) (f ∷ y) h g e =
         ap₂ (λ (t w : Bool). t || (w && less_bytes x y)) (le-ltb d f (omega arith)) (ne_eqb d f (λ s. omega arith))
         ∙ sym (le-ltb (heavy_from (256 * u + d) x) (heavy_from (256 * u + f) y) (omega arith))
 
--- ---- some part falls: its number is not above that of the part before it, of the first that of a part before all, if there is one
-
--- the number k is not above the one before
-abbrev pub not_above : Option ℕ → ℕ → Bool
-not_above None k = false
-not_above (Some last) k = leb k last
-
-abbrev pub falls_behind : Option ℕ → List (List ℕ) → Bool
-falls_behind last [] = false
-falls_behind last (p ∷ ps) = not_above last (heavy_first p) || falls_behind (Some (heavy_first p)) ps
-
 not_less : (x y : ℕ) → not (ltb x y) ≡ leb y x
 not_less x y = elim (true_or_false (ltb x y)) [
   | inl t ↦ let l = ltb-true x y t in ap not t ∙ sym (lt-leb y x (omega arith))
@@ -101,26 +68,34 @@ not_and : (p q : Bool) → not (p && q) ≡ (not p || not q)
 not_and true q = refl
 not_and false q = refl
 
--- parts of four bytes rise behind x exactly when none falls
-none_falls : (x : List ℕ) (k : ℕ) (b : List ℕ) → AreBytes x → length x ≡ 4 → AreBytes b → 4 * k ≤ length b
-    → not (rising_from x (parts 4 k b)) ≡ falls_behind (Some (heavy_first x)) (parts 4 k b)
-none_falls x zero b h e are fits = refl
-none_falls x (suc k) b h e are fits =
-    let y = take 4 b in
-    let long : length y ≡ 4 = length-take-le 4 b (omega arith) in
-    let room : 4 * k ≤ length (drop 4 b) = rw length-drop (omega arith) in
-    not_and (less_bytes x y) (rising_from y (parts 4 k (drop 4 b)))
-    ∙ ap₂ (λ (p q : Bool). p || q)
-    (ap not (less_from 0 x y h (bytes_take 4 b are) (e ∙ sym long)) ∙ not_less (heavy_first x) (heavy_first y))
-    (none_falls y k (drop 4 b) (bytes_take 4 b are) long (bytes_drop 4 b are) room)
+-- ---- the strings from one on: they rise exactly when it stands before the next one, and those from the next one on rise
 
-falls_first : (k : ℕ) (b : List ℕ) → AreBytes b → 4 * k ≤ length b → not (rising_bytes (parts 4 k b)) ≡ falls_behind None (parts 4 k b)
-falls_first zero b are fits = refl
-falls_first (suc k) b are fits =
-    none_falls (take 4 b) k (drop 4 b) (bytes_take 4 b are) (length-take-le 4 b (omega arith)) (bytes_drop 4 b are) (rw length-drop (omega arith))
+rising_at : (ps : List (List ℕ)) (i : ℕ) → suc i < length ps
+    → rising_bytes (drop i ps) ≡ (less_bytes (get_or ps i []) (get_or ps (suc i) []) && rising_bytes (drop (suc i) ps))
+rising_at [] i h = absurd (omega arith)
+rising_at (x ∷ []) i h = absurd (omega arith)
+rising_at (x ∷ y ∷ ps) zero h = refl
+rising_at (x ∷ y ∷ ps) (suc i) h = rising_at (y ∷ ps) i (omega arith)
 
--- R8, of the transitions of a section
-pub order_read : (b : List ℕ) → AreBytes b → not (rising_bytes (parts 4 (length b / 4) b)) ≡ falls_behind None (map bytes_of (transitions_in b))
-order_read b are =
-    let fits : 4 * (length b / 4) ≤ length b = omega arith in
-    falls_first (length b / 4) b are fits ∙ ap (falls_behind None) (sym (parts_bytes (length b / 4) b fits))
+rising_next : (ps : List (List ℕ)) (i k : ℕ) → k ≡ suc i → k < length ps
+    → rising_bytes (drop i ps) ≡ (less_bytes (get_or ps i []) (get_or ps k []) && rising_bytes (drop k ps))
+rising_next ps i k e h = rw e (rising_at ps i (omega arith))
+
+compared : (x y : List ℕ) (u v : ℕ) → AreBytes x → AreBytes y → length x ≡ 4 → length y ≡ 4 → u ≡ heavy_first y → v ≡ heavy_first x
+    → not (less_bytes x y) ≡ leb u v
+compared x y u v one two long_one long_two eu ev =
+    ap not (less_from 0 x y one two (long_one ∙ sym long_two)) ∙ not_less (heavy_first x) (heavy_first y) ∙ ap₂ leb (sym eu) (sym ev)
+
+-- the string with index k is compared with the one before; n is the index of the next one to be the one before
+pub falls_next : (ps : List (List ℕ)) (i k n u v : ℕ) (seen whole : Bool) → k ≡ suc i → n ≡ k → k < length ps
+    → AreBytes (get_or ps i []) → AreBytes (get_or ps k []) → length (get_or ps i []) ≡ 4 → length (get_or ps k []) ≡ 4
+    → u ≡ heavy_first (get_or ps k []) → v ≡ heavy_first (get_or ps i [])
+    → whole ≡ (seen || not (rising_bytes (drop i ps))) → whole ≡ ((seen || leb u v) || not (rising_bytes (drop n ps)))
+falls_next ps i k n u v seen whole e f h one two long_one long_two eu ev so_far =
+    let rest = not (rising_bytes (drop k ps)) in
+    so_far
+    ∙ ap (λ (t : Bool). seen || not t) (rising_next ps i k e h)
+    ∙ ap (λ (t : Bool). seen || t) (not_and (less_bytes (get_or ps i []) (get_or ps k [])) (rising_bytes (drop k ps)))
+    ∙ ap (λ (t : Bool). seen || (t || rest)) (compared (get_or ps i []) (get_or ps k []) u v one two long_one long_two eu ev)
+    ∙ sym (or_assoc seen (leb u v) rest)
+    ∙ ap (λ (j : ℕ). (seen || leb u v) || not (rising_bytes (drop j ps))) (sym f)

@@ -1,12 +1,7 @@
 -- A transition's byte string as the number by which it is compared (R8), and which of R7 and R8 is told.
 -- Assumes nothing.
 use Rattle.std.specs.Prelude.{Bool, true, false, Option, Some, None, List, [], ◌∷◌, ℕ, ◌+◌, ◌*◌}
-use Rattle.systems.specs.Tables.{Transition}
 use Rattle.answers.specs.declared.Refusal.{Refusal}
-
--- the four bytes of a transition (S4)
-abbrev pub bytes_of : Transition → List ℕ
-bytes_of t = t.component ∷ t.source ∷ t.label ∷ t.target ∷ []
 
 -- the number x with the bytes of a string behind it, the first of them heaviest (R8)
 abbrev pub heavy_from : ℕ → List ℕ → ℕ

@@ -25,18 +25,18 @@ not_accepted e z q = cc
 
 pub returns-in_default : goal.returns-in_default
 returns-in_default c =
-    let told = c.told_of_second-answer.ensures _ (verdict c.args.second.now) c.judge.ensures.answer_told in
+    let told = c.told_of_second-answer.ensures _ (verdict c.args.second.now) c.judge_tables.ensures.answer_told in
     none c.in_default.not-Accepted
     (second_stops _ _ c.args.first.now.judged.sheet.sheet_accepted _ c.in_default.not-Accepted told)
 
 pub of-requires : goal.of-requires
 of-requires c =
-    let told = c.in-Accepted.ensures _ (verdict c.args.second.now) c.judge.ensures.answer_told in
-    record { answer_told = sizes_told _ _ (second_sheet _ _ told); room_left = c.judge.ensures.room_left }
+    let told = c.in-Accepted.ensures _ (verdict c.args.second.now) c.judge_tables.ensures.answer_told in
+    record { answer_told = sizes_told _ _ (second_sheet _ _ told); room_left = c.judge_tables.ensures.room_left }
 
 pub returns-then-differ : goal.returns-then-differ
 returns-then-differ c =
-    let told = c.in-Accepted.ensures _ (verdict c.args.second.now) c.judge.ensures.answer_told in
+    let told = c.in-Accepted.ensures _ (verdict c.args.second.now) c.judge_tables.ensures.answer_told in
     let apart = sym (c.differ.ensures ∙ ap (tables_differ c.args.first.now.sheet.now) c.of.ensures.0) ∙ c.if-differ.true in
     none (not_accepted c.refuse.ensures)
     (ap outcome_of c.refuse.ensures
@@ -44,10 +44,10 @@ returns-then-differ c =
 
 pub returns : goal.returns
 returns c =
-    let told = c.in-Accepted.ensures _ (verdict c.args.second.now) c.judge.ensures.answer_told in
+    let told = c.in-Accepted.ensures _ (verdict c.args.second.now) c.judge_tables.ensures.answer_told in
     let alike = sym (c.differ.ensures ∙ ap (tables_differ c.args.first.now.sheet.now) c.of.ensures.0) ∙ c.if-differ.false in
     let second = second_sheet _ _ told in
     record {
       answer_told = two_pass _ _ _ c.args.first.now.judged.sheet _ second alike;
-      room_left = λ z q. c.judge.ensures.room_left second.sheet_accepted;
+      room_left = λ z q. c.judge_tables.ensures.room_left second.sheet_accepted;
     }

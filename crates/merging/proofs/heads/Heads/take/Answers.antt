@@ -11,7 +11,7 @@ use Rattle.merging.proofs.heads.Heads.take.Goals as goal
 pub returns-then-self-eq0-clause-taken : goal.returns-then-self-eq0-clause-taken
 returns-then-self-eq0-clause-taken c =
     let s = c.args.self.now in
-    (none_ready s.participants.now (labels_of s.left.now) s.waiting s.ready s.lined s.shown c.if-self-eq0.true, refl)
+    (none_ready s.participants.now (labels_of s.left.now) s.waiting.now s.ready s.lined s.shown c.if-self-eq0.true, refl)
 
 pub take_action-self-requires : goal.take_action-self-requires
 take_action-self-requires c =
@@ -20,5 +20,5 @@ take_action-self-requires c =
       s.lined,
       took.ensures.below,
       (false_iff (member took.new.left took.result)).1 (λ m. ((took.ensures.rest took.result).0 m).1 refl),
-      subst (λ (x : ℕ). Shown s.participants.now (rest_in (labels_of s.left.now)) Everywhere s.waiting x) (taken_with_left took.ensures) s.shown,
+      subst (λ (x : ℕ). Shown s.participants.now (rest_in (labels_of s.left.now)) Everywhere s.waiting.now x) (taken_with_left took.ensures) s.shown,
     )
